@@ -1,0 +1,4 @@
+pub mod Bools
+pub mod Marked
+pub mod Columns
+pub mod Tables

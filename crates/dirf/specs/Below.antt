@@ -1,0 +1,52 @@
+-- Which record may stand directly below which: 004's structure lists 2.1 (DECPF) and 2.2 (DECPJ), records of the base only.
+-- What 000's indents put under INFPC and INFPA is not here: those two are left for later.
+use Prim.Native.Nat.{ℕ}
+use mathlib.Core.List.{List, [], _∷_}
+use lib.Dec.{eqb}
+use Rattle.dirf.specs.Bytes.{if_then_else_, lookup}
+use Rattle.dirf.specs.Kinds.{DECPF, DECPJ, IDREC, BPFDEC, RTRT, RTPO, RTDP, RTDS, RTIRF, CJAC, CJAA, ESRT, ESPO, ESDP, ESDS}
+use Rattle.dirf.specs.Kinds.{ESIR, ESDJ, RTPP, RTFA, RTSP, ESPP, ESFA, ESSP, RTPA, ESPA, RIDAC, RIIRP, RIAP, RIMOG, RIP65}
+use Rattle.dirf.specs.Kinds.{RIBMR, RICAP, RIRPC, RIL96, RIPTS, RIJMRE, RIO, BPJDEC, FCI, BPFFCI, BPJFCI, PROC, BPFPROC}
+use Rattle.dirf.specs.Kinds.{RIRSR, BPJPROC, RRA, BPFRRA, DAJUD, QTMESES, SCP, BPFSCP, RISCP, BPJSCP}
+
+-- a parent, and the records that may stand directly below it
+abbrev pub Children : Type 0
+Children = List (ℕ × List ℕ)
+
+-- 004, list 2.1
+abbrev pub underDECPF : Children
+underDECPF =
+    (DECPF, IDREC ∷ RRA ∷ SCP ∷ []) ∷
+    (IDREC, BPFDEC ∷ BPJDEC ∷ BPFRRA ∷ []) ∷
+    (BPFDEC, RTRT ∷ RTPO ∷ RTDP ∷ RTDS ∷ RTIRF ∷ CJAC ∷ CJAA ∷ ESRT ∷ ESPO ∷ ESDP ∷ ESDS ∷ ESIR ∷ ESDJ ∷ RIDAC ∷ RIIRP ∷ RIAP ∷ RIP65 ∷ RIJMRE ∷ RIO ∷ []) ∷
+    (BPJDEC, RTRT ∷ RTIRF ∷ []) ∷
+    (RRA, IDREC ∷ []) ∷
+    (BPFRRA, RTRT ∷ RTPO ∷ RTIRF ∷ DAJUD ∷ QTMESES ∷ RIJMRE ∷ []) ∷
+    (SCP, BPFSCP ∷ BPJSCP ∷ []) ∷
+    (BPFSCP, RISCP ∷ []) ∷
+    (BPJSCP, RISCP ∷ []) ∷
+    []
+
+-- 004, list 2.2
+abbrev pub underDECPJ : Children
+underDECPJ =
+    (DECPJ, IDREC ∷ FCI ∷ PROC ∷ RRA ∷ SCP ∷ []) ∷
+    (IDREC, BPFDEC ∷ BPJDEC ∷ BPFFCI ∷ BPJFCI ∷ BPFPROC ∷ BPJPROC ∷ BPFRRA ∷ []) ∷
+    (BPFDEC, RTRT ∷ RTPO ∷ RTDP ∷ RTDS ∷ RTIRF ∷ CJAC ∷ CJAA ∷ ESRT ∷ ESPO ∷ ESDP ∷ ESDS ∷ ESIR ∷ ESDJ ∷ RIDAC ∷ RIIRP ∷ RIAP ∷ RIMOG ∷ RIP65 ∷ RIBMR ∷ RICAP ∷ RIRPC ∷ RIL96 ∷ RIPTS ∷ RIJMRE ∷ RIO ∷ []) ∷
+    (BPJDEC, RTRT ∷ RTIRF ∷ []) ∷
+    (FCI, IDREC ∷ []) ∷
+    (BPFFCI, RTRT ∷ RTIRF ∷ CJAC ∷ CJAA ∷ ESRT ∷ ESIR ∷ ESDJ ∷ RIP65 ∷ RIMOG ∷ RICAP ∷ RIO ∷ []) ∷
+    (BPJFCI, RTRT ∷ RTIRF ∷ []) ∷
+    (PROC, IDREC ∷ []) ∷
+    (BPFPROC, RTRT ∷ RTPO ∷ RTDP ∷ RTDS ∷ RTIRF ∷ CJAC ∷ CJAA ∷ ESRT ∷ ESPO ∷ ESDP ∷ ESDS ∷ ESIR ∷ ESDJ ∷ RTPP ∷ RTFA ∷ RTSP ∷ ESPP ∷ ESFA ∷ ESSP ∷ RTPA ∷ ESPA ∷ RIMOG ∷ RIJMRE ∷ RIRSR ∷ []) ∷
+    (BPJPROC, RTRT ∷ RTIRF ∷ RIRSR ∷ []) ∷
+    (RRA, IDREC ∷ []) ∷
+    (BPFRRA, RTRT ∷ RTPO ∷ RTIRF ∷ RIMOG ∷ RIP65 ∷ RIJMRE ∷ DAJUD ∷ QTMESES ∷ []) ∷
+    (SCP, BPFSCP ∷ BPJSCP ∷ []) ∷
+    (BPFSCP, RISCP ∷ []) ∷
+    (BPJSCP, RISCP ∷ []) ∷
+    []
+
+-- 01, "The tree": "one table of yes and no, with the declarant's kind as a part of the question"
+unfoldable pub below2025 : ℕ → Children
+below2025 declarant = if eqb declarant DECPF then underDECPF else underDECPJ

@@ -1,0 +1,49 @@
+-- An edition of the layout: all that the published documents fix, as one argument. The base has one, of 2025.
+use Prim.Native.Nat.{ℕ}
+use mathlib.Core.Bool.{Bool, _&&_, not}
+use mathlib.Core.List.{List, [], _∷_}
+use lib.Dec.{eqb}
+use Rattle.dirf.specs.Bytes.{if_then_else_, Text, same, some, isIn, lookup}
+use Rattle.dirf.specs.Kinds.{names2025, isLater}
+use Rattle.dirf.specs.Row.{Row}
+use Rattle.dirf.specs.Layout.{layout2025}
+use Rattle.dirf.specs.Below.{Children, below2025}
+
+pub record Edition : Type 0 where
+  -- the kinds and their identifiers
+  pub names : List (ℕ × Text)
+  -- the records that share a field table, and its rows
+  pub layout : List (List ℕ × List Row)
+  -- by the declarant's kind, which record may stand directly below which
+  pub below : ℕ → Children
+
+unfoldable pub edition2025 : Edition
+edition2025 = record { names = names2025; layout = layout2025; below = below2025 }
+
+-- the kind that an identifier names; 0: unknown
+unfoldable pub kindIn : List (ℕ × Text) → Text → ℕ
+kindIn [] s = 0
+kindIn (n ∷ ns) s = if same (n .1) s then n .0 else kindIn ns s
+
+unfoldable pub kindOf : Edition → Text → ℕ
+kindOf e s = kindIn (e .names) s
+
+unfoldable pub nameOf : Edition → ℕ → Text
+nameOf e k = lookup [] (e .names) k
+
+-- the field rows of a kind
+unfoldable pub rowsIn : List (List ℕ × List Row) → ℕ → List Row
+rowsIn [] k = []
+rowsIn (g ∷ gs) k = if isIn k (g .0) then g .1 else rowsIn gs k
+
+unfoldable pub rowsOf : Edition → ℕ → List Row
+rowsOf e k = rowsIn (e .layout) k
+
+-- a kind that the edition names and that is not left for later
+unfoldable pub isBase : Edition → ℕ → Bool
+isBase e k = some (λ n. eqb k (n .0)) (e .names) && not (isLater k)
+
+-- to compute with this file: `unfolding edition-opens`
+unfoldable pub edition-opens : Unit {0}
+unfolding below2025 edition2025 kindIn kindOf nameOf rowsIn rowsOf isBase
+edition-opens = tt

@@ -1,0 +1,24 @@
+-- Document 01 as definitions, to be read from the first file to the last.
+pub mod Bytes
+pub mod Limits
+pub mod Kinds
+pub mod Row
+pub mod Layout
+pub mod Below
+pub mod Edition
+pub mod Lines
+pub mod Numbers
+pub mod Fields
+pub mod Conditions
+pub mod Rules
+pub mod Tree
+pub mod Keys
+pub mod Order
+pub mod Check
+pub mod FieldReader
+pub mod Written
+pub mod Amounts
+pub mod LineWriter
+pub mod Marked
+pub mod Columns
+pub mod Tables
