@@ -22,3 +22,4 @@ pub mod LineWriter
 pub mod Marked
 pub mod Columns
 pub mod Tables
+pub mod Theorems

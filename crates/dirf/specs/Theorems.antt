@@ -1,0 +1,9 @@
+-- What the definitions come to: statements only. Their proofs stand in proofs/.
+pub mod Plain
+pub mod Breach
+pub mod Sound
+pub mod Answered
+pub mod GoodSoFar
+pub mod Counts
+pub mod Whose
+pub mod ThereAndBack

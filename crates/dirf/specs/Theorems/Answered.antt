@@ -1,0 +1,79 @@
+-- Demand 2: "A file is accepted exactly when it is closed, within the limits, fits the table, and no line breaks a field, nesting,
+-- condition or order rule. Otherwise the first breach in document 01's order is named."
+use Prim.Native.Nat.{ℕ, suc}
+use mathlib.Core.Path.{_≡_}
+use mathlib.Core.Bool.{true, false}
+use mathlib.Core.Logic.{_↔_, _≢_}
+use mathlib.Core.List.{List, [], _∷_, _++_}
+use Rattle.dirf.specs.Bytes.{Text}
+use Rattle.dirf.specs.Kinds.{FIMDirf}
+use Rattle.dirf.specs.Row.{Row}
+use Rattle.dirf.specs.Fields.{FieldRule}
+use Rattle.dirf.specs.Conditions.{Condition}
+use Rattle.dirf.specs.Edition.{Edition}
+use Rattle.dirf.specs.Lines.{Piece, pieces}
+use Rattle.dirf.specs.Rules.{Found, keeps, breaks, Contents, Rule, gives, fieldByField, conditions, ask}
+use Rattle.dirf.specs.Tree.{Rec}
+use Rattle.dirf.specs.Order.{Here, here, order}
+use Rattle.dirf.specs.Check.{Verdict, recOf, refused, accepted, verdict}
+use Rattle.dirf.specs.Theorems.Plain.{_∈_, Nth}
+use Rattle.dirf.specs.Theorems.Breach.{Breach}
+use Rattle.dirf.specs.Theorems.Sound.{Sound}
+
+-- the records that lines make, after those before, last first
+abbrev pub recs : Edition → List Rec → List Piece → List Rec
+recs e before [] = before
+recs e before (p ∷ ps) = recs e (recOf e before p ∷ before) ps
+
+-- a line breaks no rule
+abbrev pub Right : Here → Type 0
+Right h = (n f : ℕ) → Breach h n f → ⊥
+
+-- each of these lines breaks no rule, given the lines before it
+abbrev pub LinesRight : Edition → ℕ → List Piece → Type 0
+LinesRight e room ps = (os : List Piece) (p : Piece) (qs : List Piece) → ps ≡ os ++ (p ∷ qs) → Right (here e room (recs e [] os) p)
+
+-- FIMDirf was read: it is the last record
+abbrev pub Closed : List Rec → Type 0
+Closed before = (r : Rec) × (rs : List Rec) × (before ≡ r ∷ rs) × (r .kind ≡ FIMDirf)
+
+pub record Accepted (e : Edition) (file : Text) (room : ℕ) : Type 0 where
+  pub lines : LinesRight e room (pieces file)
+  pub shut : Closed (recs e [] (pieces file))
+
+-- the first rule of the list that is broken gives n, naming f
+pub data FirstBroken (h : Here) (n f : ℕ) : List (Rule Here) → Type 0 where
+  this : {r : Rule Here} {rs : List (Rule Here)} → ask r h ≡ breaks n f → FirstBroken h n f (r ∷ rs)
+  later : {r : Rule Here} {rs : List (Rule Here)} → ask r h ≡ keeps → FirstBroken h n f rs → FirstBroken h n f (r ∷ rs)
+
+-- What an answer can be: accepted; unclosed, which is 1; or refused at the first line that breaks a rule, by the first rule in order.
+pub data Answer (e : Edition) (file : Text) (room : ℕ) : Verdict → Type 0 where
+  accepts : Accepted e file room → Answer e file room (accepted (recs e [] (pieces file)))
+  unclosed : LinesRight e room (pieces file) → (Closed (recs e [] (pieces file)) → ⊥) → Answer e file room (refused (recs e [] (pieces file)) 1 0)
+  refuses : (os : List Piece) (p : Piece) (qs : List Piece) (n f : ℕ) → pieces file ≡ os ++ (p ∷ qs) → LinesRight e room os
+      → FirstBroken (here e room (recs e [] os) p) n f order → Answer e file room (refused (recs e [] os) n f)
+
+-- the answer is of that form, and any answer of that form is the answer
+abbrev pub Answered : Edition → Type 0
+Answered e = (file : Text) (room : ℕ) → Answer e file room (verdict e file room)
+
+abbrev pub Only : Edition → Type 0
+Only e = (file : Text) (room : ℕ) (v : Verdict) → Answer e file room v → v ≡ verdict e file room
+
+-- number 0 exactly when the file is accepted
+abbrev pub AcceptedExactly : Edition → Type 0
+AcceptedExactly e = (file : Text) (room : ℕ) → (verdict e file room .number ≡ 0) ↔ Accepted e file room
+
+-- a rule's own test says that it is broken: number n, naming field f
+pub data Given (h : Here) (n f : ℕ) : Rule Here → Type 0 where
+  by-test : {test : Here → _} → test h ≡ true → Given h n f (gives n f test)
+  by-field : {xs : List FieldRule} {of : Here → Contents} (x : FieldRule) (r : Row) (s : Text) → x ∈ xs → x .0 ≡ n
+      → Nth (of h .rows) f r → Nth (of h .cells) f s → x .1 (of h .name) r s ≡ true → Given h n f (fieldByField xs of)
+  by-condition : {xs : List Condition} {of : Here → Contents} (x : Condition) → x ∈ xs → x .field ≡ f
+      → of h .kind ≡ x .kind → x .broken (of h .cells) ≡ true → Given h n f (conditions n xs of)
+
+-- each test of the list says what document 01's table says in plain mathematics, and the list has them all
+abbrev pub TestsSay : Edition → Type 0
+TestsSay e =
+    (room : ℕ) (before : List Rec) (p : Piece) (n f : ℕ)
+    → Breach (here e room before p) n f ↔ ((r : Rule Here) × (r ∈ order) × Given (here e room before p) n f r)
