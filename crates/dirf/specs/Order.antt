@@ -132,7 +132,11 @@ order =
     gives 7 0 noRoom ∷
     []
 
--- to compute with this file: `unfolding order-opens`
+-- to compute with this file: `unfolding order-opens`; `line-opens` leaves shut what looks at the lines before
+unfoldable pub line-opens : Unit {0}
+unfolding contentsOf kindOfLine here lineNumber bytesFollowFIMDirf tooManyLines lineTooLong nothingOrCR inputEnds strayLineEnd noBarAtTheEnd identifierUnknown leftForLater mayNotStandHere wrongNumberOfFields valueRecordRepeated keyNotGreater noRoom order
+line-opens = tt
+
 unfoldable pub order-opens : Unit {0}
-unfolding contentsOf kindOfLine here lineNumber closed bytesFollowFIMDirf tooManyLines lineTooLong nothingOrCR inputEnds strayLineEnd noBarAtTheEnd identifierUnknown leftForLater mayNotStandHere wrongNumberOfFields valueRecordRepeated keyNotGreater noRoom order
+unfolding line-opens closed
 order-opens = tt

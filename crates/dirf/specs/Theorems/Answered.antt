@@ -2,7 +2,7 @@
 -- condition or order rule. Otherwise the first breach in document 01's order is named."
 use Prim.Native.Nat.{ℕ, suc}
 use mathlib.Core.Path.{_≡_}
-use mathlib.Core.Bool.{true, false}
+use mathlib.Core.Bool.{Bool, true}
 use mathlib.Core.Logic.{_↔_, _≢_}
 use mathlib.Core.List.{List, [], _∷_, _++_}
 use Rattle.dirf.specs.Bytes.{Text}
@@ -42,9 +42,9 @@ pub record Accepted (e : Edition) (file : Text) (room : ℕ) : Type 0 where
   pub shut : Closed (recs e [] (pieces file))
 
 -- the first rule of the list that is broken gives n, naming f
-pub data FirstBroken (h : Here) (n f : ℕ) : List (Rule Here) → Type 0 where
-  this : {r : Rule Here} {rs : List (Rule Here)} → ask r h ≡ breaks n f → FirstBroken h n f (r ∷ rs)
-  later : {r : Rule Here} {rs : List (Rule Here)} → ask r h ≡ keeps → FirstBroken h n f rs → FirstBroken h n f (r ∷ rs)
+pub data FirstBroken {A : Type 0} (a : A) (n f : ℕ) : List (Rule A) → Type 0 where
+  this : {r : Rule A} {rs : List (Rule A)} → ask r a ≡ breaks n f → FirstBroken a n f (r ∷ rs)
+  later : {r : Rule A} {rs : List (Rule A)} → ask r a ≡ keeps → FirstBroken a n f rs → FirstBroken a n f (r ∷ rs)
 
 -- What an answer can be: accepted; unclosed, which is 1; or refused at the first line that breaks a rule, by the first rule in order.
 pub data Answer (e : Edition) (file : Text) (room : ℕ) : Verdict → Type 0 where
@@ -65,12 +65,12 @@ abbrev pub AcceptedExactly : Edition → Type 0
 AcceptedExactly e = (file : Text) (room : ℕ) → (verdict e file room .number ≡ 0) ↔ Accepted e file room
 
 -- a rule's own test says that it is broken: number n, naming field f
-pub data Given (h : Here) (n f : ℕ) : Rule Here → Type 0 where
-  by-test : {test : Here → _} → test h ≡ true → Given h n f (gives n f test)
-  by-field : {xs : List FieldRule} {of : Here → Contents} (x : FieldRule) (r : Row) (s : Text) → x ∈ xs → x .0 ≡ n
-      → Nth (of h .rows) f r → Nth (of h .cells) f s → x .1 (of h .name) r s ≡ true → Given h n f (fieldByField xs of)
-  by-condition : {xs : List Condition} {of : Here → Contents} (x : Condition) → x ∈ xs → x .field ≡ f
-      → of h .kind ≡ x .kind → x .broken (of h .cells) ≡ true → Given h n f (conditions n xs of)
+pub data Given {A : Type 0} (a : A) (n f : ℕ) : Rule A → Type 0 where
+  by-test : {m g : ℕ} {test : A → Bool} → m ≡ n → g ≡ f → test a ≡ true → Given a n f (gives m g test)
+  by-field : {xs : List FieldRule} {of : A → Contents} (x : FieldRule) (r : Row) (s : Text) → x ∈ xs → x .0 ≡ n
+      → Nth (of a .rows) f r → Nth (of a .cells) f s → x .1 (of a .name) r s ≡ true → Given a n f (fieldByField xs of)
+  by-condition : {m : ℕ} {xs : List Condition} {of : A → Contents} (x : Condition) → m ≡ n → x ∈ xs → x .field ≡ f
+      → of a .kind ≡ x .kind → x .broken (of a .cells) ≡ true → Given a n f (conditions m xs of)
 
 -- each test of the list says what document 01's table says in plain mathematics, and the list has them all
 abbrev pub TestsSay : Edition → Type 0

@@ -1,5 +1,5 @@
 -- Document 01's table of numbers in plain mathematics: what it means that a line gives a number, naming a field. Limits are literals.
-use Prim.Native.Nat.{ℕ, suc, _≤_, _<_}
+use Prim.Native.Nat.{ℕ, zero, suc, _≤_, _<_}
 use mathlib.Core.Path.{_≡_}
 use mathlib.Core.Bool.{true, false}
 use mathlib.Core.Logic.{_⊎_, _≢_}
@@ -32,14 +32,23 @@ abbrev pub NotBefore : Option Open → ℕ → Type 0
 NotBefore none k = Unit {0}
 NotBefore (some o) k = o .kind ≤ k
 
--- 01, "The tree": a record of kind k may stand after these
-pub data Stands (e : Edition) (before : List Rec) (k : ℕ) : Type 0 where
-  line-1 : length before ≡ 0 → k ≡ Dirf → Stands e before k
-  line-2 : length before ≡ 1 → k ≡ RESPO → Stands e before k
-  line-3 : length before ≡ 2 → (k ≡ DECPF) ⊎ (k ≡ DECPJ) → Stands e before k
-  the-end : 3 ≤ length before → k ≡ FIMDirf → Stands e before k
-  below : 3 ≤ length before → (o : Open) (last : Option Open) → Innermost e (declarant before) k none (opened before) o last
-      → NotBefore last k → Stands e before k
+-- some open record may hold k, and k does not come before what opened last there
+pub record Below (e : Edition) (d k : ℕ) (c : Option Open) (os : List Open) : Type 0 where
+  pub holder : Open
+  pub last : Option Open
+  pub innermost : Innermost e d k c os holder last
+  pub ordered : NotBefore last k
+
+-- 01, "The tree": a record of kind k may stand after n records: "Lines 1, 2, 3 are Dirf, RESPO and one of DECPF or DECPJ. Then
+-- blocks, then FIMDirf"
+abbrev pub StandsAfter : ℕ → Edition → List Rec → ℕ → Type 0
+StandsAfter zero e before k = k ≡ Dirf
+StandsAfter (suc zero) e before k = k ≡ RESPO
+StandsAfter (suc (suc zero)) e before k = (k ≡ DECPF) ⊎ (k ≡ DECPJ)
+StandsAfter (suc (suc (suc n))) e before k = (k ≡ FIMDirf) ⊎ Below e (declarant before) k none (opened before)
+
+abbrev pub Stands : Edition → List Rec → ℕ → Type 0
+Stands e before k = StandsAfter (length before) e before k
 
 -- field f of a line has row r and holds s
 abbrev pub FieldIs : Here → ℕ → Row → Text → Type 0

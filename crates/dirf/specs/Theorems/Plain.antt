@@ -83,9 +83,9 @@ pub record Date (s : Text) : Type 0 where
   pub month : InMonth (valueOf (take 4 s)) (valueOf (take 2 (drop 4 s))) (valueOf (drop 6 s))
 
 -- 01, "Order": "Keys compare byte by byte, a proper beginning first; an empty key is the least."
-pub data Smaller : Text → Text → Type 0 where
-  beginning : (s : Text) (b : ℕ) (t : Text) → Smaller s (s ++ (b ∷ t))
-  at-byte : (s : Text) {b c : ℕ} (t u : Text) → b < c → Smaller (s ++ (b ∷ t)) (s ++ (c ∷ u))
+pub data Smaller (a b : Text) : Type 0 where
+  beginning : (c : ℕ) (t : Text) → b ≡ a ++ (c ∷ t) → Smaller a b
+  at-byte : (s : Text) (x y : ℕ) (t u : Text) → a ≡ s ++ (x ∷ t) → b ≡ s ++ (y ∷ u) → x < y → Smaller a b
 
 -- a key of one or two fields: at the first field in which they differ
 pub data SmallerKey : List Text → List Text → Type 0 where

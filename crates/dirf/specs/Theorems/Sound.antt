@@ -8,7 +8,7 @@ use lib.Dec.{eqb}
 use lib.ListN.{length}
 use Rattle.dirf.specs.Bytes.{if_then_else_, Text, every, isIn, lookup}
 use Rattle.dirf.specs.Kinds.{IDREC, SCP, FIMDirf, isValue, isBeneficiary, isBlock}
-use Rattle.dirf.specs.Edition.{Edition, kindOf, nameOf, isBase}
+use Rattle.dirf.specs.Edition.{Edition}
 use Rattle.dirf.specs.Tables.{RowsRight, KindsRight}
 use Rattle.dirf.specs.Rules.{keeps, first}
 use Rattle.dirf.specs.Tree.{Rec}
@@ -55,7 +55,5 @@ pub record Sound (e : Edition) : Type 0 where
   pub kinds : KindsRight e
   -- no kind has number 0
   pub numbered : every (λ n. not (eqb (n .0) 0)) (e .names) ≡ true
-  -- a kind of the base has an identifier that names it
-  pub named : (k : ℕ) → isBase e k ≡ true → kindOf e (nameOf e k) ≡ k
   pub nested : (d h k : ℕ) → isIn k (lookup [] (e .below d) h) ≡ true → Nested h k
   pub closable : Closable e

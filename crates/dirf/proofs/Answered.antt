@@ -1,0 +1,123 @@
+-- Demand 2: the verdict is accepted, unclosed, or refused at the first line that breaks a rule, by the first rule in order; and nothing
+-- else of that form is the verdict.
+use Prim.Native.Nat.{ℕ, suc, _≤_}
+use mathlib.Core.Path.{_≡_, refl, sym, ap, _∙_, subst}
+use mathlib.Core.Bool.{Bool, true, false}
+use mathlib.Core.Logic.{_↔_, ⊎-elim}
+use mathlib.Core.List.{List, [], _∷_, map, List·Memᴰ·cases-cons, List·Memᴰ·not-nil}
+use lib.Dec.{leb}
+use borrow.Author.Tests.{leb-true}
+use native.Mathlib.Omega.{arith}
+use Rattle.dirf.specs.Bytes.{Text, every}
+use Rattle.dirf.specs.Edition.{Edition}
+use Rattle.dirf.specs.Lines.{Piece, pieces}
+use Rattle.dirf.specs.Fields.{FieldRule, fields-opens}
+use Rattle.dirf.specs.Conditions.{conditions-opens}
+use Rattle.dirf.specs.Rules.{keeps, Rule, first}
+use Rattle.dirf.specs.Tree.{Rec}
+use Rattle.dirf.specs.Order.{Here, here, order, closed}
+use Rattle.dirf.specs.Check.{Verdict, refused, accepted, noBytesLeft, verdict}
+use Rattle.dirf.specs.Columns.{Column, itsOwn, columnsOf}
+use Rattle.dirf.specs.Theorems.Plain.{_∈_}
+use Rattle.dirf.specs.Theorems.Breach.{Breach}
+use Rattle.dirf.specs.Theorems.Sound.{Sound}
+use Rattle.dirf.specs.Theorems.Answered.{recs, Right, LinesRight, Closed, Accepted, FirstBroken, Answer, accepts, unclosed, refuses}
+use Rattle.dirf.specs.Theorems.Answered.{Given, by-test, by-field, by-condition, Answered, Only, AcceptedExactly}
+use Rattle.dirf.proofs.Says.{denies, every-in}
+use Rattle.dirf.proofs.Bools.{and-left, and-right}
+use Rattle.dirf.proofs.RuleLaws.{none-given, broken-given}
+use Rattle.dirf.proofs.TestsSay.{tests-say, closed-says}
+use Rattle.dirf.proofs.RunLaws.{Kept, Fate, passes, stops, fate, kept-verdict, stops-verdict, kept-at, at-kept}
+
+-- a number is from 2 on
+abbrev big : Column → Bool
+big c = leb 2 (c .0)
+
+fields-big : (xs : List FieldRule) → every big (map (λ x. (x .0, itsOwn)) xs) ≡ true → (x : FieldRule) → x ∈ xs → 2 ≤ x .0
+unfolding every
+fields-big [] e x m = absurd (List·Memᴰ·not-nil m)
+fields-big (y ∷ xs) e x m =
+    let rest = every big (map (λ (x : FieldRule). (x .0, itsOwn)) xs) in
+    ⊎-elim
+    (λ q. omega (arith, leb-true 2 (y .0) (and-left (leb 2 (y .0)) rest e), ap (λ (z : FieldRule). z .0) q))
+    (λ m. fields-big xs (and-right (leb 2 (y .0)) rest e) x m)
+    (List·Memᴰ·cases-cons m)
+
+-- what a rule gives is a number of its column
+given-big : {h : Here} {n f : ℕ} {r : Rule Here} → Given h n f r → every big (columnsOf r) ≡ true → 2 ≤ n
+unfolding columnsOf every
+given-big (by-test {m = m} e q t) c = omega (arith, leb-true 2 m (and-left (leb 2 m) true c))
+given-big (by-field {xs = xs} x r s l e i j t) c = omega (arith, fields-big xs c x l)
+given-big (by-condition {m = m} x e l q i t) c = omega (arith, leb-true 2 m (and-left (leb 2 m) true c))
+
+-- computed over the columns of the list: no rule gives 0 or 1
+order-big : (r : Rule Here) → r ∈ order → every big (columnsOf r) ≡ true
+unfolding every columnsOf fields-opens conditions-opens order
+order-big r m = every-in (λ r. every big (columnsOf r)) order refl m
+
+-- what a file's end comes to
+pub shut-ends : (before : List Rec) → Closed before → noBytesLeft before ≡ accepted before
+unfolding noBytesLeft
+shut-ends before c = rw (closed-says before .1 c)
+
+pub open-ends : (before : List Rec) → (Closed before → ⊥) → noBytesLeft before ≡ refused before 1 0
+unfolding noBytesLeft
+open-ends before c = rw (denies (closed before) (closed-says before) .1 c)
+
+module _ (e : Edition) (sound : Sound e) where
+  -- a line keeps every rule of the list exactly when it breaks none of the table
+  pub right-exactly : (room : ℕ) (before : List Rec) (p : Piece) → (first order (here e room before p) ≡ keeps) ↔ Right (here e room before p)
+  right-exactly room before p =
+      let h = here e room before p in (
+        λ k n f b. let g = tests-say e sound room before p n f .0 b in none-given order h .0 k n f (g .0) (g .1) (g .2),
+        λ r. none-given order h .1 (λ n f x m g. r n f (tests-say e sound room before p n f .1 (x, m, g))),
+      )
+
+  pub lines-right : (room : ℕ) (ps : List Piece) → Kept e room [] ps ↔ LinesRight e room ps
+  lines-right room ps = (
+    λ k os p qs s. right-exactly room (recs e [] os) p .0 (kept-at e room [] ps k os p qs s),
+    λ l. at-kept e room [] ps (λ os p qs s. right-exactly room (recs e [] os) p .1 (l os p qs s)),
+  )
+
+  -- what is named first is a breach, so its number is neither 0 nor 1
+  pub broken-breach : (room : ℕ) (before : List Rec) (p : Piece) (n f : ℕ) → FirstBroken (here e room before p) n f order → Breach (here e room before p) n f
+  broken-breach room before p n f b = tests-say e sound room before p n f .1 (broken-given b)
+
+  pub broken-number : (room : ℕ) (before : List Rec) (p : Piece) (n f : ℕ) → FirstBroken (here e room before p) n f order → 2 ≤ n
+  broken-number room before p n f b = let g = broken-given b in given-big (g .2) (order-big (g .0) (g .1))
+
+  pub answered : Answered e
+  answered file room = go (fate e room [] (pieces file))
+    where
+      all : List Rec
+      all = recs e [] (pieces file)
+
+      ending : (t : Bool) → closed all ≡ t → LinesRight e room (pieces file) → Answer e file room (noBytesLeft all)
+      ending true q l = let c = closed-says all .0 q in subst (Answer e file room) (sym (shut-ends all c)) (accepts (record { lines = l; shut = c }))
+      ending false q l =
+          let c = denies (closed all) (closed-says all) .0 q in subst (Answer e file room) (sym (open-ends all c)) (unclosed l c)
+
+      go : Fate e room [] (pieces file) → Answer e file room (verdict e file room)
+      go (passes k) = subst (Answer e file room) (sym (kept-verdict e room file k)) (ending (closed all) refl (lines-right room (pieces file) .0 k))
+      go (stops os p qs n f s k b) =
+          subst (Answer e file room) (sym (stops-verdict e room file os p qs n f s k b)) (refuses os p qs n f s (lines-right room os .0 k) b)
+
+  pub only : Only e
+  only file room v (accepts a) =
+      sym (kept-verdict e room file (lines-right room (pieces file) .1 (a .lines)) ∙ shut-ends (recs e [] (pieces file)) (a .shut))
+  only file room v (unclosed l c) = sym (kept-verdict e room file (lines-right room (pieces file) .1 l) ∙ open-ends (recs e [] (pieces file)) c)
+  only file room v (refuses os p qs n f s l b) = sym (stops-verdict e room file os p qs n f s (lines-right room os .1 l) b)
+
+  -- number 0, by the one answer there is
+  zero-accepted : (file : Text) (room : ℕ) (v : Verdict) → Answer e file room v → v .number ≡ 0 → Accepted e file room
+  unfolding refused
+  zero-accepted file room v (accepts a) q = a
+  zero-accepted file room v (unclosed l c) q = absurd (omega arith)
+  zero-accepted file room v (refuses os p qs n f s l b) q = absurd (omega (arith, broken-number room (recs e [] os) p n f b))
+
+  pub accepted-exactly : AcceptedExactly e
+  unfolding accepted
+  accepted-exactly file room = (
+    zero-accepted file room (verdict e file room) (answered file room),
+    λ a. ap (λ (v : Verdict). v .number) (sym (only file room (accepted (recs e [] (pieces file))) (accepts a))),
+  )

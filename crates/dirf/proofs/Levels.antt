@@ -1,0 +1,61 @@
+-- The level of a kind says what it is: value record, beneficiary, IDREC or SCP.
+use Prim.Native.Nat.{ℕ, _<_}
+use mathlib.Core.Path.{_≡_, refl, sym, _∙_}
+use mathlib.Core.Bool.{true, false, true≢false}
+use mathlib.Core.Logic.{_⊎_, inl, inr, ⊎-elim}
+use mathlib.Core.List.{List, [], _∷_, List·Memᴰ·cases-cons, List·Memᴰ·eq-of-singleton}
+use native.Mathlib.Omega.{arith}
+use lib.Dec.{eqb}
+use borrow.Author.Tests.{eqb-true}
+use Rattle.dirf.specs.Bytes.{every, isIn, bytes-opens}
+use Rattle.dirf.specs.Kinds.{IDREC, SCP, beneficiaries, values, isValue, isBeneficiary, isBlock, kinds-opens}
+use Rattle.dirf.specs.Theorems.Plain.{_∈_}
+use Rattle.dirf.specs.Theorems.Sound.{level}
+use Rattle.dirf.proofs.Bools.{if-cases}
+use Rattle.dirf.proofs.Says.{isIn-says, every-in}
+
+pub level-in : (l : ℕ) {k : ℕ} {ks : List ℕ} → every (λ k. eqb (level k) l) ks ≡ true → k ∈ ks → level k ≡ l
+level-in l {k} {ks} all m = eqb-true (level k) l (every-in (λ k. eqb (level k) l) ks all m)
+
+pub value-level : {k : ℕ} → k ∈ values → level k ≡ 4
+unfolding bytes-opens kinds-opens level
+value-level = level-in 4 refl
+
+pub beneficiary-level : {k : ℕ} → k ∈ beneficiaries → level k ≡ 3
+unfolding bytes-opens kinds-opens level
+beneficiary-level = level-in 3 refl
+
+level-cases : (P : ℕ → Type 0) (k : ℕ) → (isValue k ≡ true → P 4) → (isBeneficiary k ≡ true → P 3)
+    → (isIn k (IDREC ∷ SCP ∷ []) ≡ true → P 2) → ((n : ℕ) → n < 2 → P n) → P (level k)
+unfolding level
+level-cases P k value beneficiary holder other =
+    if-cases P (isValue k) value (λ _.
+    if-cases P (isBeneficiary k) beneficiary (λ _.
+    if-cases P (isIn k (IDREC ∷ SCP ∷ [])) holder (λ _.
+    if-cases P (isBlock k) (λ _. other 1 (omega arith)) (λ _. other 0 (omega arith)))))
+
+pub opens-level : (k : ℕ) → isValue k ≡ false → level k < 4
+opens-level k opens =
+    level-cases (λ l. l < 4) k (λ v. absurd (true≢false (sym v ∙ opens)))
+    (λ _. omega arith) (λ _. omega arith) (λ n l. omega arith)
+
+pub is-holder : (k : ℕ) → level k ≡ 2 → (k ≡ IDREC) ⊎ (k ≡ SCP)
+is-holder k =
+    level-cases (λ l. l ≡ 2 → (k ≡ IDREC) ⊎ (k ≡ SCP)) k (λ _ l. absurd (omega arith)) (λ _ l. absurd (omega arith))
+    (λ h _. ⊎-elim inl (λ m. inr (List·Memᴰ·eq-of-singleton m)) (List·Memᴰ·cases-cons (isIn-says k (IDREC ∷ SCP ∷ []) .0 h)))
+    (λ n o l. absurd (omega arith))
+
+pub below-holder : (k : ℕ) → 2 < level k → (k ∈ beneficiaries) ⊎ (k ∈ values)
+unfolding isValue isBeneficiary
+below-holder k =
+    level-cases (λ l. 2 < l → (k ∈ beneficiaries) ⊎ (k ∈ values)) k
+    (λ v _. inr (isIn-says k values .0 v))
+    (λ b _. inl (isIn-says k beneficiaries .0 b))
+    (λ _ l. absurd (omega arith))
+    (λ n o l. absurd (omega arith))
+
+pub below-beneficiary : (k : ℕ) → 3 < level k → k ∈ values
+below-beneficiary k l = ⊎-elim (λ b. absurd (omega (arith, beneficiary-level b))) (λ v. v) (below-holder k (omega arith))
+
+pub is-beneficiary : (k : ℕ) → level k ≡ 3 → k ∈ beneficiaries
+is-beneficiary k l = ⊎-elim (λ b. b) (λ v. absurd (omega (arith, value-level v))) (below-holder k (omega arith))

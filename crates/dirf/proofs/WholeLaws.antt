@@ -1,0 +1,120 @@
+-- A file that is empty or ends in CR LF: each of its pieces is ended, and what is written after it adds pieces behind them.
+use Prim.Native.Nat.{ℕ, suc, _≤_}
+use mathlib.Core.Path.{_≡_, refl, ap, _∙_}
+use mathlib.Core.Bool.{Bool, true, false, _&&_, false≢true}
+use mathlib.Core.Logic.{_≢_}
+use mathlib.Core.List.{List, [], _∷_, _++_, append-nil}
+use native.Mathlib.Omega.{arith}
+use native.Mathlib.Nat.{not-suc-le-zero}
+use lib.Dec.{eqb}
+use lib.ListN.{length}
+use borrow.Author.Tests.{ne-eqb}
+use Rattle.dirf.specs.Bytes.{if_then_else_, Text}
+use Rattle.dirf.specs.Limits.{CR, LF, lineEnd}
+use Rattle.dirf.specs.Lines.{Piece, push, pieces}
+use Rattle.dirf.specs.Theorems.Plain.{NoLineEnd}
+use Rattle.dirf.specs.Theorems.GoodSoFar.{Whole, empty, ends-in-CR-LF, lineEnds}
+use Rattle.dirf.proofs.Says.{it, on}
+
+abbrev pub AllEnded : List Piece → Type 0
+AllEnded [] = Unit {0}
+AllEnded (p ∷ ps) = (p .ended ≡ true) × AllEnded ps
+
+abbrev emptyLine : Piece
+emptyLine = record { body = []; ended = true }
+
+push-ended : (x : ℕ) (ps qs : List Piece) → AllEnded (push x ps) → AllEnded ps × (push x (ps ++ qs) ≡ push x ps ++ qs)
+unfolding push
+push-ended x [] qs h = absurd (false≢true (h .0))
+push-ended x (p ∷ ps) qs h = (h, refl)
+
+pub pieces-append : (a b : Text) → AllEnded (pieces a) → pieces (a ++ b) ≡ pieces a ++ pieces b
+unfolding pieces push
+pieces-append [] b h = refl
+pieces-append (x ∷ []) b h = absurd (false≢true (h .0))
+pieces-append (x ∷ y ∷ s) b h = go (eqb x CR && eqb y LF) (pieces-append s b) (pieces-append (y ∷ s) b) h
+  where
+    go : (t : Bool) → (AllEnded (pieces s) → pieces (s ++ b) ≡ pieces s ++ pieces b)
+        → (AllEnded (pieces (y ∷ s)) → pieces (y ∷ s ++ b) ≡ pieces (y ∷ s) ++ pieces b)
+        → AllEnded (if t then emptyLine ∷ pieces s else push x (pieces (y ∷ s)))
+        → (if t then emptyLine ∷ pieces (s ++ b) else push x (pieces (y ∷ s ++ b)))
+        ≡ (if t then emptyLine ∷ pieces s else push x (pieces (y ∷ s))) ++ pieces b
+    go true f g k = ap (λ ps. emptyLine ∷ ps) (f (k .1))
+    go false f g k = let e = push-ended x (pieces (y ∷ s)) (pieces b) k in ap (push x) (g (e .0)) ∙ e .1
+
+push-length : (x : ℕ) (ps : List Piece) → AllEnded (push x ps) → length (push x ps) ≡ length ps
+unfolding push
+push-length x [] h = absurd (false≢true (h .0))
+push-length x (p ∷ ps) h = refl
+
+-- as many pieces as CR LF pairs
+pub line-count : (a : Text) → AllEnded (pieces a) → length (pieces a) ≡ lineEnds a
+unfolding pieces push lineEnds
+line-count [] h = refl
+line-count (x ∷ []) h = absurd (false≢true (h .0))
+line-count (x ∷ y ∷ s) h = go (eqb x CR && eqb y LF) (line-count s) (line-count (y ∷ s)) h
+  where
+    go : (t : Bool) → (AllEnded (pieces s) → length (pieces s) ≡ lineEnds s) → (AllEnded (pieces (y ∷ s)) → length (pieces (y ∷ s)) ≡ lineEnds (y ∷ s))
+        → AllEnded (if t then emptyLine ∷ pieces s else push x (pieces (y ∷ s)))
+        → length (if t then emptyLine ∷ pieces s else push x (pieces (y ∷ s))) ≡ (if t then suc (lineEnds s) else lineEnds (y ∷ s))
+    go true f g k = ap suc (f (k .1))
+    go false f g k = push-length x (pieces (y ∷ s)) k ∙ g (push-ended x (pieces (y ∷ s)) [] k .0)
+
+-- all ended, and at least one
+abbrev Good : List Piece → Type 0
+Good ps = AllEnded ps × (1 ≤ length ps)
+
+push-good : (x : ℕ) (ps : List Piece) → Good ps → Good (push x ps)
+unfolding push
+push-good x [] h = absurd (not-suc-le-zero (h .1))
+push-good x (p ∷ ps) h = h
+
+ended-line : (ps : List Piece) → AllEnded ps → Good (emptyLine ∷ ps)
+ended-line ps h = ((refl, h), omega arith)
+
+ends-good : (s : Text) → Good (pieces (s ++ lineEnd))
+unfolding pieces push
+ends-good [] = ended-line [] tt
+ends-good (x ∷ []) = go (eqb x CR)
+  where
+    go : (t : Bool) → Good (if t && false then emptyLine ∷ pieces (LF ∷ []) else push x (pieces lineEnd))
+    go true = push-good x (pieces lineEnd) (ended-line [] tt)
+    go false = push-good x (pieces lineEnd) (ended-line [] tt)
+ends-good (x ∷ y ∷ s) = go (eqb x CR && eqb y LF) (ends-good s) (ends-good (y ∷ s))
+  where
+    go : (t : Bool) → Good (pieces (s ++ lineEnd)) → Good (pieces (y ∷ s ++ lineEnd))
+        → Good (if t then emptyLine ∷ pieces (s ++ lineEnd) else push x (pieces (y ∷ s ++ lineEnd)))
+    go true f g = ended-line (pieces (s ++ lineEnd)) (f .0)
+    go false f g = push-good x (pieces (y ∷ s ++ lineEnd)) g
+
+pub whole-ended : {s : Text} → Whole s → AllEnded (pieces s)
+unfolding pieces
+whole-ended empty = tt
+whole-ended (ends-in-CR-LF s) = ends-good s .0
+
+-- a line with its CR LF is one piece
+push-all : Text → List Piece → List Piece
+push-all [] ps = ps
+push-all (b ∷ s) ps = push b (push-all s ps)
+
+pieces-push : (b : ℕ) (s : Text) → b ≢ 13 → pieces (b ∷ s) ≡ push b (pieces s)
+unfolding pieces
+pieces-push b [] n = refl
+pieces-push b (c ∷ s) n = rw (ne-eqb b CR n)
+
+pieces-front : (c r : Text) → NoLineEnd c → pieces (c ++ r) ≡ push-all c (pieces r)
+unfolding push-all
+pieces-front [] r n = refl
+pieces-front (b ∷ c) r n = pieces-push b (c ++ r) (n b it .0) ∙ ap (push b) (pieces-front c r (λ x m. n x (on m)))
+
+push-all-cons : (c : Text) (p : Piece) (ps : List Piece) → push-all c (p ∷ ps) ≡ record { body = c ++ p .body; ended = p .ended } ∷ ps
+unfolding push-all push
+push-all-cons [] p ps = refl
+push-all-cons (b ∷ c) p ps = ap (push b) (push-all-cons c p ps)
+
+pub line-piece : (line rest : Text) → NoLineEnd line → pieces (line ++ (CR ∷ LF ∷ rest)) ≡ record { body = line; ended = true } ∷ pieces rest
+unfolding pieces
+line-piece line rest n =
+    pieces-front line (CR ∷ LF ∷ rest) n
+    ∙ push-all-cons line emptyLine (pieces rest)
+    ∙ ap (λ l. record { body = l; ended = true } ∷ pieces rest) (append-nil line)
