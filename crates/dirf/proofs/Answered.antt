@@ -1,59 +1,38 @@
 -- Demand 2: the verdict is accepted, unclosed, or refused at the first line that breaks a rule, by the first rule in order; and nothing
 -- else of that form is the verdict.
-use Prim.Native.Nat.{ℕ, suc, _≤_}
+use Prim.Native.Nat.{ℕ, _≤_}
 use mathlib.Core.Path.{_≡_, refl, sym, ap, _∙_, subst}
 use mathlib.Core.Bool.{Bool, true, false}
-use mathlib.Core.Logic.{_↔_, ⊎-elim}
-use mathlib.Core.List.{List, [], _∷_, map, List·Memᴰ·cases-cons, List·Memᴰ·not-nil}
+use mathlib.Core.Logic.{_↔_}
+use mathlib.Core.List.{List, []}
 use lib.Dec.{leb}
 use borrow.Author.Tests.{leb-true}
 use native.Mathlib.Omega.{arith}
 use Rattle.dirf.specs.Bytes.{Text, every}
 use Rattle.dirf.specs.Edition.{Edition}
 use Rattle.dirf.specs.Lines.{Piece, pieces}
-use Rattle.dirf.specs.Fields.{FieldRule, fields-opens}
+use Rattle.dirf.specs.Fields.{fields-opens}
 use Rattle.dirf.specs.Conditions.{conditions-opens}
-use Rattle.dirf.specs.Rules.{keeps, Rule, first}
+use Rattle.dirf.specs.Rules.{keeps, first}
 use Rattle.dirf.specs.Tree.{Rec}
-use Rattle.dirf.specs.Order.{Here, here, order, closed}
+use Rattle.dirf.specs.Order.{here, order, closed}
 use Rattle.dirf.specs.Check.{Verdict, refused, accepted, noBytesLeft, verdict}
-use Rattle.dirf.specs.Columns.{Column, itsOwn, columnsOf}
-use Rattle.dirf.specs.Theorems.Plain.{_∈_}
 use Rattle.dirf.specs.Theorems.Breach.{Breach}
 use Rattle.dirf.specs.Theorems.Sound.{Sound}
 use Rattle.dirf.specs.Theorems.Answered.{recs, Right, LinesRight, Closed, Accepted, FirstBroken, Answer, accepts, unclosed, refuses}
-use Rattle.dirf.specs.Theorems.Answered.{Given, by-test, by-field, by-condition, Answered, Only, AcceptedExactly}
-use Rattle.dirf.proofs.Says.{denies, every-in}
-use Rattle.dirf.proofs.Bools.{and-left, and-right}
-use Rattle.dirf.proofs.RuleLaws.{none-given, broken-given}
+use Rattle.dirf.specs.Theorems.Answered.{Answered, Only, AcceptedExactly}
+use Rattle.dirf.proofs.Says.{denies}
+use Rattle.dirf.proofs.Lists.{every-in}
+use Rattle.dirf.proofs.Asked.{numbersPass}
+use Rattle.dirf.proofs.Given.{given-number, none-given}
+use Rattle.dirf.proofs.RuleLaws.{broken-given}
 use Rattle.dirf.proofs.TestsSay.{tests-say, closed-says}
 use Rattle.dirf.proofs.RunLaws.{Kept, Fate, passes, stops, fate, kept-verdict, stops-verdict, kept-at, at-kept}
 
--- a number is from 2 on
-abbrev big : Column → Bool
-big c = leb 2 (c .0)
-
-fields-big : (xs : List FieldRule) → every big (map (λ x. (x .0, itsOwn)) xs) ≡ true → (x : FieldRule) → x ∈ xs → 2 ≤ x .0
-unfolding every
-fields-big [] e x m = absurd (List·Memᴰ·not-nil m)
-fields-big (y ∷ xs) e x m =
-    let rest = every big (map (λ (x : FieldRule). (x .0, itsOwn)) xs) in
-    ⊎-elim
-    (λ q. omega (arith, leb-true 2 (y .0) (and-left (leb 2 (y .0)) rest e), ap (λ (z : FieldRule). z .0) q))
-    (λ m. fields-big xs (and-right (leb 2 (y .0)) rest e) x m)
-    (List·Memᴰ·cases-cons m)
-
--- what a rule gives is a number of its column
-given-big : {h : Here} {n f : ℕ} {r : Rule Here} → Given h n f r → every big (columnsOf r) ≡ true → 2 ≤ n
-unfolding columnsOf every
-given-big (by-test {m = m} e q t) c = omega (arith, leb-true 2 m (and-left (leb 2 m) true c))
-given-big (by-field {xs = xs} x r s l e i j t) c = omega (arith, fields-big xs c x l)
-given-big (by-condition {m = m} x e l q i t) c = omega (arith, leb-true 2 m (and-left (leb 2 m) true c))
-
--- computed over the columns of the list: no rule gives 0 or 1
-order-big : (r : Rule Here) → r ∈ order → every big (columnsOf r) ≡ true
-unfolding every columnsOf fields-opens conditions-opens order
-order-big r m = every-in (λ r. every big (columnsOf r)) order refl m
+-- computed over the list: no rule gives 0 or 1
+order-big : every (numbersPass (leb 2)) order ≡ true
+unfolding every fields-opens conditions-opens order
+order-big = refl
 
 -- what a file's end comes to
 pub shut-ends : (before : List Rec) → Closed before → noBytesLeft before ≡ accepted before
@@ -84,7 +63,7 @@ module _ (e : Edition) (sound : Sound e) where
   broken-breach room before p n f b = tests-say e sound room before p n f .1 (broken-given b)
 
   pub broken-number : (room : ℕ) (before : List Rec) (p : Piece) (n f : ℕ) → FirstBroken (here e room before p) n f order → 2 ≤ n
-  broken-number room before p n f b = let g = broken-given b in given-big (g .2) (order-big (g .0) (g .1))
+  broken-number room before p n f b = let g = broken-given b in leb-true 2 n (given-number (leb 2) (g .2) (every-in (numbersPass (leb 2)) (g .1) order-big))
 
   pub answered : Answered e
   answered file room = go (fate e room [] (pieces file))

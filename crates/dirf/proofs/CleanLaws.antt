@@ -1,9 +1,9 @@
 -- The bytes before the first CR or LF, and those from it on.
-use Prim.Native.Nat.{ℕ, _≤_, _<_}
+use Prim.Native.Nat.{ℕ}
 use mathlib.Core.Path.{_≡_, refl, sym, ap, _∙_, subst}
-use mathlib.Core.Bool.{Bool, true, false, _||_, not, true≢false}
+use mathlib.Core.Bool.{Bool, true, false, not, true≢false}
 use mathlib.Core.Logic.{_↔_, _≢_, _⊎_, inl, inr, ⊎-elim}
-use mathlib.Core.List.{List, [], _∷_, _++_, append-nil, List·Memᴰ·cases-cons, List·Memᴰ·not-nil, cons≢nil, Memᴰ·append-right}
+use mathlib.Core.List.{[], _∷_, _++_, append-nil, List·Memᴰ·cases-cons, List·Memᴰ·not-nil, cons≢nil, Memᴰ·append-right}
 use mathlib.Core.List.{head-eq-of-cons-eq, tail-eq-of-cons-eq, nil≢cons}
 use Rattle.dirf.specs.Bytes.{if_then_else_, Text, isEmpty}
 use Rattle.dirf.specs.Limits.{CR, LF}
@@ -53,6 +53,10 @@ pub clean-front : (a b : Text) → NoLineEnd a → clean (a ++ b) ≡ a ++ clean
 unfolding clean
 clean-front [] b n = refl
 clean-front (x ∷ a) b n = rw (no-end-head n, clean) (ap (λ l. x ∷ l) (clean-front a b (no-end-tail n)))
+
+pub clean-whole : (s : Text) → NoLineEnd s → clean s ≡ s
+unfolding clean
+clean-whole s n = ap clean (sym (append-nil s)) ∙ clean-front s [] n ∙ append-nil s
 
 pub unclean-front : (a b : Text) → NoLineEnd a → unclean (a ++ b) ≡ unclean b
 unfolding unclean

@@ -1,6 +1,5 @@
 -- The rule lists have the numbers and fields of document 01's table, in its order. Proved by computing.
-use mathlib.Core.Path.{_≡_, refl}
-use Rattle.dirf.specs.Bytes.{bytes-opens}
+use mathlib.Core.Path.{refl}
 use Rattle.dirf.specs.Fields.{fields-opens}
 use Rattle.dirf.specs.Conditions.{conditions-opens}
 use Rattle.dirf.specs.Order.{order-opens}

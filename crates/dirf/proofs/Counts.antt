@@ -1,5 +1,5 @@
 -- What every answer tells of the counts.
-use Prim.Native.Nat.{ℕ, suc, _+_, _≤_, _<_}
+use Prim.Native.Nat.{ℕ, suc, _≤_, _<_}
 use mathlib.Core.Path.{_≡_, refl, sym, ap, _∙_, subst}
 use mathlib.Core.Bool.{Bool, true, false}
 use mathlib.Core.List.{List, [], _∷_, _++_, Memᴰ·append-right}
@@ -12,7 +12,7 @@ use Rattle.dirf.specs.Lines.{Piece, pieces, clean, unclean}
 use Rattle.dirf.specs.Rules.{keeps, first}
 use Rattle.dirf.specs.Tree.{Rec}
 use Rattle.dirf.specs.Order.{here, order}
-use Rattle.dirf.specs.Check.{Verdict, recOf, tableOf, refused, accepted, verdict}
+use Rattle.dirf.specs.Check.{Verdict, recOf, refused, accepted, verdict}
 use Rattle.dirf.specs.Theorems.Plain.{_∈_}
 use Rattle.dirf.specs.Theorems.Breach.{line-65537, ends, stray, full}
 use Rattle.dirf.specs.Theorems.Sound.{Sound}

@@ -1,17 +1,16 @@
 -- The edition of 2025 is sound: computed tests over its tables, and four lines that close a file.
 use Prim.Native.Nat.{ℕ, suc, _≤_, _<_}
-use mathlib.Core.Path.{_≡_, refl, sym, ap, _∙_, subst}
-use mathlib.Core.Bool.{Bool, true, false, _&&_, _||_, not, true≢false}
-use mathlib.Core.Logic.{_≢_, ⊎-elim}
+use mathlib.Core.Path.{_≡_, refl, sym, ap, _∙_}
+use mathlib.Core.Bool.{Bool, true, false, _&&_, true≢false}
 use mathlib.Core.List.{List, [], _∷_}
 use native.Mathlib.Omega.{arith}
 use lib.Dec.{eqb, ltb}
 use lib.ListN.{length}
 use borrow.Author.Tests.{eqb-true, ltb-true, le-ltb}
-use Rattle.dirf.specs.Bytes.{if_then_else_, Text, bytes, every, some, isIn, lookup, bytes-opens}
+use Rattle.dirf.specs.Bytes.{if_then_else_, bytes, every, isIn, lookup, bytes-opens}
 use Rattle.dirf.specs.Kinds.{Dirf, RESPO, DECPF, FIMDirf, kinds-opens}
 use Rattle.dirf.specs.Below.{Children, underDECPF, underDECPJ, below2025}
-use Rattle.dirf.specs.Edition.{Edition, edition2025, kindOf, nameOf, isBase, edition-opens}
+use Rattle.dirf.specs.Edition.{edition2025, edition-opens}
 use Rattle.dirf.specs.Lines.{lines-opens}
 use Rattle.dirf.specs.Numbers.{numbers-opens}
 use Rattle.dirf.specs.Fields.{fields-opens}
@@ -20,11 +19,10 @@ use Rattle.dirf.specs.Rules.{rules-opens}
 use Rattle.dirf.specs.Tree.{Rec, opening, mayStand}
 use Rattle.dirf.specs.Keys.{keys-opens}
 use Rattle.dirf.specs.Order.{line-opens}
-use Rattle.dirf.specs.Tables.{KindsRight}
-use Rattle.dirf.specs.Theorems.Plain.{_∈_}
-use Rattle.dirf.specs.Theorems.Sound.{level, Nested, KeptAfter, Closable, Sound}
+use Rattle.dirf.specs.Theorems.Sound.{level, Nested, Closable, Sound}
 use Rattle.dirf.proofs.Bools.{and-left, and-right}
-use Rattle.dirf.proofs.Says.{every-in, isIn-says, eqb-says}
+use Rattle.dirf.proofs.Says.{isIn-says, eqb-says}
+use Rattle.dirf.proofs.Lists.{every-in}
 use Rattle.dirf.proofs.Tables.{rows-right, kinds-right}
 
 -- what a row of a table of children keeps: deeper, and value records and beneficiaries only where they belong
@@ -63,7 +61,7 @@ in-table test (r ∷ t) e h k m =
     go : (b : Bool) → eqb h (r .0) ≡ b → (isIn k (lookup [] t h) ≡ true → test h k ≡ true) → isIn k (if b then r .1 else lookup [] t h) ≡ true → test h k ≡ true
     go true q ih m =
         ap (λ x. test x k) (eqb-true h (r .0) q)
-        ∙ every-in (test (r .0)) (r .1) row (isIn-says k (r .1) .0 m)
+        ∙ every-in (test (r .0)) (isIn-says k (r .1) .0 m) row
     go false q ih m = ih m
 
 under-DECPF : every (λ r. every (nests (r .0)) (r .1)) underDECPF ≡ true
@@ -129,6 +127,7 @@ sound2025 =
       rows = rows-right;
       kinds = kinds-right;
       numbered = refl;
+      identified = refl;
       nested = nested2025;
       closable = closable2025;
     }

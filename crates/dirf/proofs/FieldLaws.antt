@@ -1,13 +1,13 @@
 -- 13 to 18: what the test of each rule says of a field.
-use Prim.Native.Nat.{ℕ, zero, suc, _+_, _%_, _≤_, _<_}
-use mathlib.Core.Path.{_≡_, refl, sym, ap, _∙_, subst}
+use Prim.Native.Nat.{ℕ, zero, suc, _%_, _≤_}
+use mathlib.Core.Path.{_≡_, refl, sym}
 use mathlib.Core.Bool.{Bool, true, false, _&&_, _||_, not, true≢false}
-use mathlib.Core.Logic.{_↔_, _≢_, _⊎_, inl, inr, ⊎-elim}
-use mathlib.Core.List.{List, [], _∷_, List·Memᴰ·head, List·Memᴰ·cases-cons, List·Memᴰ·not-nil, Memᴰ·cast}
+use mathlib.Core.Logic.{_≢_, _⊎_, inl, inr, ⊎-elim}
+use mathlib.Core.List.{[], _∷_, List·Memᴰ·head, List·Memᴰ·cases-cons, List·Memᴰ·not-nil, Memᴰ·cast}
 use native.Mathlib.Omega.{arith}
 use lib.Dec.{eqb, leb}
-use lib.ListN.{length, getD, take, drop}
-use Rattle.dirf.specs.Bytes.{if_then_else_, Text, every, some, isIn, same, isDigit, isEmpty, beginsWith, bytes-opens}
+use lib.ListN.{length, take, drop}
+use Rattle.dirf.specs.Bytes.{if_then_else_, Text, every, isIn, same, isEmpty, beginsWith, bytes-opens}
 use Rattle.dirf.specs.Limits.{bar, CR, LF}
 use Rattle.dirf.specs.Row.{Row, Format, C, N, D, Fill, fixed, variable, Need, obligatory, optional}
 use Rattle.dirf.specs.Row.{Holds, identifier, amount, months, ddd, telephone, cpf, cnpj, cpfOrCnpj, plain, oneOf}
@@ -17,7 +17,8 @@ use Rattle.dirf.specs.Fields.{obligatoryFieldEmpty, byteOfTheWrongKind, 
 use Rattle.dirf.specs.Theorems.Plain.{_∈_, RightByte, Fills, SizeHeld, TakesNoZero, an-amount, a-month-count, a-ddd, Valid}
 use Rattle.dirf.specs.Theorems.Plain.{Leap, InMonth, long-month, short-month, february, leap-february, Date}
 use Rattle.dirf.proofs.Says.{Says, says-and, says-or, says-not, says-by, denies, eqb-says, leb-says, it, on}
-use Rattle.dirf.proofs.Says.{some-says, every-says, every-in, isIn-says, empty-says, same-says, begins-says}
+use Rattle.dirf.proofs.Lists.{every-in}
+use Rattle.dirf.proofs.Says.{some-says, every-says, digit-says, isIn-says, empty-says, same-says, begins-says}
 
 -- a test that always holds, and one that never does
 always : Says true (Unit {0})
@@ -36,10 +37,6 @@ unfolding dated
 dated-says C = never (λ h. let z : _≡_ {A = ℕ} 0 1 = cc in omega arith)
 dated-says N = never (λ h. let z : _≡_ {A = ℕ} 0 1 = cc in omega arith)
 dated-says D = (λ e. refl, λ h. refl)
-
-digit-says : (b : ℕ) → Says (isDigit b) ((48 ≤ b) × (b ≤ 57))
-unfolding isDigit
-digit-says b = says-and (leb 48 b) (leb b 57) (leb-says 48 b) (leb-says b 57)
 
 pub right-byte-says : (f : Format) (b : ℕ) → Says (rightByte f b) (RightByte f b)
 unfolding rightByte
@@ -137,8 +134,8 @@ month-of y (suc (suc (suc (suc (suc (suc (suc (suc (suc (suc (suc (suc (suc m)))
 
 days-of : (y m d : ℕ) → InMonth y m d → d ≤ daysIn y m
 unfolding daysIn bytes-opens
-days-of y m d (long-month h b) = omega (arith, leb-says 31 (daysIn y m) .0 (every-in (λ m. leb 31 (daysIn y m)) _ refl h))
-days-of y m d (short-month h b) = omega (arith, leb-says 30 (daysIn y m) .0 (every-in (λ m. leb 30 (daysIn y m)) _ refl h))
+days-of y m d (long-month h b) = omega (arith, leb-says 31 (daysIn y m) .0 (every-in (λ m. leb 31 (daysIn y m)) h refl))
+days-of y m d (short-month h b) = omega (arith, leb-says 30 (daysIn y m) .0 (every-in (λ m. leb 30 (daysIn y m)) h refl))
 days-of y m d (february e b) = rw e (omega (arith, least (isLeap y)))
   where
     least : (t : Bool) → 28 ≤ (if t then 29 else 28)

@@ -3,7 +3,7 @@ use Prim.Native.Nat.{ℕ, zero, suc, _+_, _≤_, _<_}
 use mathlib.Core.Path.{_≡_, refl, sym, ap, _∙_, subst}
 use mathlib.Core.Bool.{Bool, true, false}
 use mathlib.Core.Logic.{_≢_, inl, inr}
-use mathlib.Core.List.{List, [], _∷_, _++_, append-assoc, append-nil}
+use mathlib.Core.List.{List, [], _∷_, _++_, append-assoc}
 use native.Mathlib.Omega.{arith}
 use native.Mathlib.Nat.{zero-add}
 use lib.ListN.{length}
@@ -16,17 +16,17 @@ use Rattle.dirf.specs.Lines.{Piece, pieces}
 use Rattle.dirf.specs.Rules.{keeps, first}
 use Rattle.dirf.specs.Tree.{Rec}
 use Rattle.dirf.specs.Order.{here, order, closed, kindOfLine}
-use Rattle.dirf.specs.Check.{Verdict, recOf, refused, accepted, noBytesLeft, verdict}
+use Rattle.dirf.specs.Check.{Verdict, recOf, refused, accepted, verdict}
 use Rattle.dirf.specs.Theorems.Plain.{NoLineEnd}
 use Rattle.dirf.specs.Theorems.Breach.{stray}
-use Rattle.dirf.specs.Theorems.Sound.{KeptAfter, Closable, Sound}
+use Rattle.dirf.specs.Theorems.Sound.{Closable, Sound}
 use Rattle.dirf.specs.Theorems.Answered.{recs, Closed, Accepted, FirstBroken}
 use Rattle.dirf.specs.Theorems.GoodSoFar.{Whole, empty, ends-in-CR-LF, lineEnds, Unfinished, GoodSoFar, GoodUpToHere}
 use Rattle.dirf.proofs.Says.{denies}
 use Rattle.dirf.proofs.TestsSay.{closed-says}
-use Rattle.dirf.proofs.RunLaws.{Kept, Fate, passes, stops, fate, kept-verdict, stops-verdict, kept-append, kept-front}
+use Rattle.dirf.proofs.RunLaws.{Kept, Fate, passes, stops, fate, kept-verdict, stops-verdict, kept-append}
 use Rattle.dirf.proofs.RunLaws.{recs-append, length-recs}
-use Rattle.dirf.proofs.WholeLaws.{AllEnded, pieces-append, line-count, whole-ended, line-piece}
+use Rattle.dirf.proofs.WholeLaws.{pieces-append, line-count, whole-ended, line-piece}
 use Rattle.dirf.proofs.Answered.{shut-ends, open-ends, right-exactly, lines-right, broken-number, accepted-exactly}
 
 -- lines that are each one whole piece

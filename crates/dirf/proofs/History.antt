@@ -19,8 +19,8 @@ use Rattle.dirf.specs.Check.{Entry, entryOf, tableOf, Verdict, refused, 
 use Rattle.dirf.specs.Check.{run, verdict}
 use Rattle.dirf.specs.Theorems.Whose.{noEntry, kindAt}
 use Rattle.dirf.proofs.Bools.{if-cases}
-use Rattle.dirf.proofs.Says.{it, on}
-use Rattle.dirf.proofs.RuleLaws.{test-kept}
+use Rattle.dirf.proofs.Lists.{listed}
+use Rattle.dirf.proofs.Asked.{rule-kept}
 
 -- each record may stand after those before it, and its parent is found among them
 pub data History (e : Edition) : List Rec → Type 0 where
@@ -34,7 +34,7 @@ module _ (e : Edition) where
   unfolding contentsOf here mayNotStandHere order breach
   line-stands room before p kept =
       not-false (mayStand e before (kindOfLine e (p .body)))
-      (test-kept order (here e room before p) 12 1 mayNotStandHere (search (it, on) depth 30) kept)
+      (rule-kept 12 1 mayNotStandHere (here e room before p) (search listed depth 30) kept)
 
   module _ (P : List Entry → Type 0) (all : (before : List Rec) → History e before → P (tableOf before)) (room : ℕ) where
     run-table : (before : List Rec) (ps : List Piece) → History e before → P (run e room before ps .table)

@@ -12,10 +12,11 @@ use Rattle.dirf.specs.Kinds.{IDREC, SCP, beneficiaries, values, isValue,
 use Rattle.dirf.specs.Theorems.Plain.{_∈_}
 use Rattle.dirf.specs.Theorems.Sound.{level}
 use Rattle.dirf.proofs.Bools.{if-cases}
-use Rattle.dirf.proofs.Says.{isIn-says, every-in}
+use Rattle.dirf.proofs.Says.{isIn-says}
+use Rattle.dirf.proofs.Lists.{every-in}
 
 pub level-in : (l : ℕ) {k : ℕ} {ks : List ℕ} → every (λ k. eqb (level k) l) ks ≡ true → k ∈ ks → level k ≡ l
-level-in l {k} {ks} all m = eqb-true (level k) l (every-in (λ k. eqb (level k) l) ks all m)
+level-in l {k} all m = eqb-true (level k) l (every-in (λ k. eqb (level k) l) m all)
 
 pub value-level : {k : ℕ} → k ∈ values → level k ≡ 4
 unfolding bytes-opens kinds-opens level

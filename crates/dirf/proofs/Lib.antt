@@ -3,6 +3,9 @@ pub mod Marked
 pub mod Columns
 pub mod Tables
 pub mod Says
+pub mod Lists
+pub mod Asked
+pub mod Given
 pub mod RuleLaws
 pub mod CleanLaws
 pub mod FieldLaws
@@ -19,3 +22,11 @@ pub mod History
 pub mod OpenRecords
 pub mod Whose
 pub mod Counts
+pub mod KeyOrder
+pub mod Bars
+pub mod FieldPlaces
+pub mod KeptFields
+pub mod NumbersBack
+pub mod Base
+pub mod WriterBack
+pub mod Demands

@@ -1,5 +1,5 @@
 -- M1 to M12, proved together by computing.
-use mathlib.Core.Path.{_≡_, refl}
+use mathlib.Core.Path.{refl}
 use Rattle.dirf.specs.Bytes.{bytes-opens}
 use Rattle.dirf.specs.Kinds.{kinds-opens}
 use Rattle.dirf.specs.Edition.{edition-opens}

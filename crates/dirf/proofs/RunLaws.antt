@@ -1,5 +1,5 @@
 -- Laws of the run over a file's lines: what the lines so far decide.
-use Prim.Native.Nat.{ℕ, suc, _+_, _≤_}
+use Prim.Native.Nat.{ℕ, _+_}
 use mathlib.Core.Path.{_≡_, refl, sym, ap, _∙_, subst}
 use mathlib.Core.List.{List, [], _∷_, _++_, append-nil, nil≢cons, head-eq-of-cons-eq, tail-eq-of-cons-eq}
 use native.Mathlib.Omega.{arith}
@@ -11,7 +11,7 @@ use Rattle.dirf.specs.Lines.{Piece, pieces}
 use Rattle.dirf.specs.Rules.{Found, keeps, breaks, first}
 use Rattle.dirf.specs.Tree.{Rec}
 use Rattle.dirf.specs.Order.{here, order}
-use Rattle.dirf.specs.Check.{Verdict, recOf, refused, noBytesLeft, breach, afterLine, run, verdict}
+use Rattle.dirf.specs.Check.{recOf, refused, noBytesLeft, breach, afterLine, run, verdict}
 use Rattle.dirf.specs.Theorems.Answered.{recs, FirstBroken}
 use Rattle.dirf.proofs.RuleLaws.{first-broken, broken-first}
 

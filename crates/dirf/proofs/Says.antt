@@ -1,16 +1,14 @@
 -- What computed tests say in plain mathematics.
-use Prim.Native.Nat.{ℕ, zero, suc, _≤_, _<_}
+use Prim.Native.Nat.{ℕ, _≤_, _<_}
 use mathlib.Core.Path.{_≡_, refl, sym, ap, _∙_, subst}
 use mathlib.Core.Bool.{Bool, true, false, _&&_, _||_, not, true≢false}
-use mathlib.Core.Logic.{_↔_, _≢_, _⊎_, inl, inr, ⊎-elim}
-use mathlib.Core.List.{List, [], _∷_, _++_, List·Memᴰ, List·Memᴰ·head, List·Memᴰ·tail, List·Memᴰ·cases-cons, List·Memᴰ·not-nil, Memᴰ·cast}
+use mathlib.Core.Logic.{_↔_, _⊎_, inl, inr}
+use mathlib.Core.List.{List, [], _∷_, _++_, List·Memᴰ·head, List·Memᴰ·tail, List·Memᴰ·cases-cons, List·Memᴰ·not-nil, Memᴰ·cast}
 use mathlib.Core.List.{nil≢cons, cons≢nil, head-eq-of-cons-eq, tail-eq-of-cons-eq}
 use native.Mathlib.Omega.{arith}
 use lib.Dec.{eqb, ltb, leb}
-use lib.ListN.{getD}
 use borrow.Author.Tests.{eqb-true, eq-eqb, leb-true, le-leb, ltb-true, lt-ltb}
-use Rattle.dirf.specs.Bytes.{Text, every, some, isIn, same, less, isEmpty, beginsWith, endsWith}
-use Rattle.dirf.proofs.Bools.{and-left, and-right}
+use Rattle.dirf.specs.Bytes.{Text, every, some, isIn, same, less, isDigit, isEmpty, beginsWith, endsWith}
 use Rattle.dirf.specs.Theorems.Plain.{_∈_, Smaller, beginning, at-byte}
 
 -- a test says P: it is true exactly when P holds
@@ -56,15 +54,6 @@ it = List·Memᴰ·head refl
 pub on : {A : Type 0} {x y : A} {xs : List A} → x ∈ xs → x ∈ (y ∷ xs)
 on m = List·Memᴰ·tail m
 
--- P holds of every element
-abbrev pub All : {A : Type 0} → (A → Type 0) → List A → Type 0
-All P [] = Unit {0}
-All P (x ∷ xs) = P x × All P xs
-
-pub all-in : {A : Type 0} (P : A → Type 0) (xs : List A) → All P xs → (x : A) → x ∈ xs → P x
-all-in P [] a x m = absurd (List·Memᴰ·not-nil m)
-all-in P (y ∷ xs) a x m = ⊎-elim (λ e. subst P (sym e) (a .0)) (λ m. all-in P xs (a .1) x m) (List·Memᴰ·cases-cons m)
-
 module _ {A : Type 0} {P : A → Type 0} (test : A → Bool) (says : (x : A) → Says (test x) (P x)) where
   pub some-says : (xs : List A) → Says (some test xs) ((x : A) × (x ∈ xs) × P x)
   unfolding some
@@ -97,20 +86,13 @@ module _ {A : Type 0} {P : A → Type 0} (test : A → Bool) (says : (x : A) →
       split : ((y : A) → y ∈ (x ∷ xs) → P y) → P x × ((y : A) → y ∈ xs → P y)
       split h = (h x it, λ y m. h y (on m))
 
--- a computed test over a list, for one that is in it; and for the element at any place, or the one that stands for all others
-module _ {A : Type 0} (test : A → Bool) where
-  pub every-in : (xs : List A) → every test xs ≡ true → {x : A} → x ∈ xs → test x ≡ true
-  every-in xs all {x} m = every-says test (λ y. (λ e. e, λ e. e)) xs .0 all x m
-
-  pub every-at : (xs : List A) (n : ℕ) (other : A) → test other ≡ true → every test xs ≡ true → test (getD xs n other) ≡ true
-  unfolding every
-  every-at [] n other o all = o
-  every-at (x ∷ xs) zero other o all = and-left (test x) (every test xs) all
-  every-at (x ∷ xs) (suc n) other o all = every-at xs n other o (and-right (test x) (every test xs) all)
-
 pub isIn-says : (k : ℕ) (ks : List ℕ) → Says (isIn k ks) (k ∈ ks)
 unfolding isIn
 isIn-says k ks = says-by (λ h. Memᴰ·cast (h .2) (h .1)) (λ m. (k, m, refl)) (some-says (eqb k) (eqb-says k) ks)
+
+pub digit-says : (b : ℕ) → Says (isDigit b) ((48 ≤ b) × (b ≤ 57))
+unfolding isDigit
+digit-says b = says-and (leb 48 b) (leb b 57) (leb-says 48 b) (leb-says b 57)
 
 pub empty-says : (s : Text) → Says (isEmpty s) (s ≡ [])
 unfolding isEmpty

@@ -1,22 +1,22 @@
 -- Every row of document 01's table: the test of the rule says what the table says in plain mathematics, and the list has them all.
-use Prim.Native.Nat.{ℕ, zero, suc, _+_, _≤_, _<_}
+use Prim.Native.Nat.{ℕ, suc, _≤_, _<_}
 use mathlib.Core.Path.{_≡_, refl, sym, ap, _∙_, subst, subst₂}
 use mathlib.Core.Bool.{Bool, true, false, _&&_, not, true≢false}
-use mathlib.Core.Logic.{_↔_, _≢_, _⊎_, inl, inr, ⊎-elim}
+use mathlib.Core.Logic.{_≢_, _⊎_, inl, inr, ⊎-elim}
 use mathlib.Core.List.{List, [], _∷_, _++_, List·Memᴰ·cases-cons, List·Memᴰ·not-nil, nil≢cons, head-eq-of-cons-eq}
 use native.Mathlib.Omega.{arith}
-use lib.Dec.{eqb, ltb}
+use lib.Dec.{eqb}
 use lib.ListN.{length, length-append}
 use Rattle.dirf.specs.Bytes.{if_then_else_, Text, bytes, every, same, isEmpty, endsWith}
 use Rattle.dirf.specs.Limits.{bar}
 use Rattle.dirf.specs.Kinds.{DECPF, FIMDirf, later, values, isLater, isValue}
 use Rattle.dirf.specs.Row.{Row}
 use Rattle.dirf.specs.Edition.{Edition, kindIn, kindOf}
-use Rattle.dirf.specs.Lines.{Piece, clean, unclean, fields, field}
+use Rattle.dirf.specs.Lines.{clean, unclean, fields, field}
 use Rattle.dirf.specs.Fields.{FieldRule, fieldOrder, obligatoryFieldEmpty, byteOfTheWrongKind, wrongSize, zeroInFront}
 use Rattle.dirf.specs.Fields.{noSuchDate, notAValidValue}
 use Rattle.dirf.specs.Conditions.{Condition, conditionOrder, special, eventDateMissing, eventTypeMissing, deathNotStated, estateStated}
-use Rattle.dirf.specs.Rules.{Contents, Rule, gives, fieldByField, conditions}
+use Rattle.dirf.specs.Rules.{Rule, gives, fieldByField, conditions}
 use Rattle.dirf.specs.Tree.{Rec, mayStand}
 use Rattle.dirf.specs.Keys.{keyFields, keyOf, hasKey, lastUnder, isSome, notAfter}
 use Rattle.dirf.specs.Order.{Here, here, kindOfLine, contentsOf, lineNumber, closed, bytesFollowFIMDirf, tooManyLines, lineTooLong}
@@ -29,7 +29,8 @@ use Rattle.dirf.specs.Theorems.Breach.{no-event-date, no-event-type, no-
 use Rattle.dirf.specs.Theorems.Sound.{Sound}
 use Rattle.dirf.specs.Theorems.Answered.{Closed, Given, by-test, by-field, by-condition, TestsSay}
 use Rattle.dirf.proofs.Says.{Says, says-and, says-not, says-by, denies, eqb-says, ltb-says, isIn-says, same-says, empty-says}
-use Rattle.dirf.proofs.Says.{every-says, ends-says, it, on, All, all-in}
+use Rattle.dirf.proofs.Says.{ends-says, it, on}
+use Rattle.dirf.proofs.Lists.{listed, Each, none, _also_, of-each}
 use Rattle.dirf.proofs.Bools.{and-left, and-right}
 use Rattle.dirf.proofs.CleanLaws.{clean-none, clean-unclean, clean-front, cut-says, stray-says}
 use Rattle.dirf.proofs.FieldLaws.{says-13, says-14, says-15, says-16, says-17, says-18}
@@ -198,9 +199,9 @@ module _ (h : Here) where
   means-18 : FieldMeans h (18, notAValidValue)
   means-18 f r s a b t = let q = says-18 (h .contents .name) r s .0 t in invalid f r s (a, b) (q .0) (q .1)
 
-  fields-mean : All (FieldMeans h) fieldOrder
+  fields-mean : Each (FieldMeans h) fieldOrder
   unfolding fieldOrder
-  fields-mean = search (means-13, means-14, means-15, means-16, means-17, means-18) depth 20
+  fields-mean = search (none, _also_, means-13, means-14, means-15, means-16, means-17, means-18) depth 20
 
   means-date : ConditionMeans h (record { kind = DECPF; field = 9; broken = eventDateMissing })
   means-date e t = let q = date-missing-says (h .contents .cells) .0 t in no-event-date e (q .0) (q .1)
@@ -214,19 +215,19 @@ module _ (h : Here) where
   means-estate : ConditionMeans h (record { kind = DECPF; field = 13; broken = estateStated })
   means-estate e t = let q = estate-says (h .contents .cells) .0 t in estate e (q .0) (q .1)
 
-  conditions-mean : All (ConditionMeans h) conditionOrder
+  conditions-mean : Each (ConditionMeans h) conditionOrder
   unfolding conditionOrder
-  conditions-mean = search (means-date, means-type, means-death, means-estate) depth 20
+  conditions-mean = search (none, _also_, means-date, means-type, means-death, means-estate) depth 20
 
   -- a rule with one number and one field
   gives-means : (m g : ℕ) (test : Here → Bool) → (test h ≡ true → Breach h m g) → Means h (gives m g test)
   gives-means m g test f n i (by-test e q t) = subst₂ (Breach h) e q (f t)
 
   all-fields-mean : Means h (fieldByField fieldOrder (λ h. h .contents))
-  all-fields-mean n f (by-field x r s l e a b t) = subst (λ m. Breach h m f) e (all-in (FieldMeans h) fieldOrder fields-mean x l f r s a b t)
+  all-fields-mean n f (by-field x r s l e a b t) = subst (λ m. Breach h m f) e (of-each fields-mean x l f r s a b t)
 
   all-conditions-mean : Means h (conditions 19 conditionOrder (λ h. h .contents))
-  all-conditions-mean n f (by-condition x m l e a t) = subst₂ (Breach h) m e (all-in (ConditionMeans h) conditionOrder conditions-mean x l a t)
+  all-conditions-mean n f (by-condition x m l e a t) = subst₂ (Breach h) m e (of-each conditions-mean x l a t)
 
   means-2 : Means h (gives 2 0 bytesFollowFIMDirf)
   means-2 = gives-means 2 0 bytesFollowFIMDirf (λ t. let q = says-2 h .0 t in follows (q .0) (q .1) (q .2) (q .3))
@@ -282,10 +283,12 @@ module _ (h : Here) (named : Named h) where
   means-9 : Means h (gives 9 1 identifierUnknown)
   means-9 = gives-means h 9 1 identifierUnknown (λ t. unknown (says-9 .0 t))
 
-  order-means : All (Means h) order
+  order-means : Each (Means h) order
   unfolding order
   order-means =
       search (
+        none,
+        _also_,
         means-2,
         means-3,
         means-4,
@@ -313,11 +316,11 @@ module _ (h : Here) (named : Named h) where
   by-field-rule : (x : FieldRule) → x ∈ fieldOrder → (f : ℕ) (r : Row) (s : Text) → Nth (h .contents .rows) f r × Nth (h .contents .cells) f s
       → x .1 (h .contents .name) r s ≡ true → GivenSome (x .0) f
   unfolding order
-  by-field-rule x m f r s i t = (fieldByField fieldOrder (λ h. h .contents), search (it, on) depth 40, by-field x r s m refl (i .0) (i .1) t)
+  by-field-rule x m f r s i t = (fieldByField fieldOrder (λ h. h .contents), search listed depth 40, by-field x r s m refl (i .0) (i .1) t)
 
   by-condition-rule : (x : Condition) → x ∈ conditionOrder → h .contents .kind ≡ x .kind → x .broken (h .contents .cells) ≡ true → GivenSome 19 (x .field)
   unfolding order
-  by-condition-rule x m e t = (conditions 19 conditionOrder (λ h. h .contents), search (it, on) depth 40, by-condition x refl m refl e t)
+  by-condition-rule x m e t = (conditions 19 conditionOrder (λ h. h .contents), search listed depth 40, by-condition x refl m refl e t)
 
   name : Text
   name = h .contents .name
@@ -327,39 +330,39 @@ module _ (h : Here) (named : Named h) where
 
   breach-given : {n f : ℕ} → Breach h n f → GivenSome n f
   unfolding order fieldOrder conditionOrder name cells
-  breach-given (follows r rs e q) = by-rule 2 0 bytesFollowFIMDirf (search (it, on) depth 40) (says-2 h .1 (r, rs, e, q))
-  breach-given (line-65537 q) = by-rule 3 0 tooManyLines (search (it, on) depth 40) (says-3 h .1 q)
-  breach-given (long a b e n q) = by-rule 4 0 lineTooLong (search (it, on) depth 40) (says-4 h .1 (a, b, e, n, q))
-  breach-given (ends e n) = by-rule 5 0 inputEnds (search (it, on) depth 40) (says-5 h .1 (e, inl n))
-  breach-given (ends-after-CR a e q n) = by-rule 5 0 inputEnds (search (it, on) depth 40) (says-5 h .1 (e, inr (a, q, n)))
-  breach-given (stray b m q) = by-rule 6 0 strayLineEnd (search (it, on) depth 40) (says-6 h .1 (b, m, q))
-  breach-given (no-bar q) = by-rule 8 0 noBarAtTheEnd (search (it, on) depth 40) (says-8 h .1 q)
-  breach-given (unknown q) = by-rule 9 1 identifierUnknown (search (it, on) depth 40) (says-9 .1 q)
-  breach-given (for-later q) = by-rule 10 1 leftForLater (search (it, on) depth 40) (says-10 h .1 q)
-  breach-given (misplaced q) = by-rule 12 1 mayNotStandHere (search (it, on) depth 40) (says-12 h .1 q)
-  breach-given (count q) = by-rule 11 0 (λ h. wrongNumberOfFields (h .contents)) (search (it, on) depth 40) (says-11 h .1 q)
-  breach-given (missing f r i e) = by-field-rule (13, obligatoryFieldEmpty) (search (it, on) depth 40) f r [] i (says-13 name r [] .1 (e, refl))
-  breach-given (byte f r s i b m q) = by-field-rule (14, byteOfTheWrongKind) (search (it, on) depth 40) f r s i (says-14 name r s .1 (b, m, q))
-  breach-given (size f r s i e q) = by-field-rule (15, wrongSize) (search (it, on) depth 40) f r s i (says-15 name r s .1 (e, q))
-  breach-given (zero-in-front f r s i z) = by-field-rule (16, zeroInFront) (search (it, on) depth 40) f r (48 ∷ s) i (says-16 name r (48 ∷ s) .1 (z, (s, refl)))
-  breach-given (no-date f r s i e d q) = by-field-rule (17, noSuchDate) (search (it, on) depth 40) f r s i (says-17 name r s .1 ((e, d), q))
-  breach-given (invalid f r s i e q) = by-field-rule (18, notAValidValue) (search (it, on) depth 40) f r s i (says-18 name r s .1 (e, q))
+  breach-given (follows r rs e q) = by-rule 2 0 bytesFollowFIMDirf (search listed depth 40) (says-2 h .1 (r, rs, e, q))
+  breach-given (line-65537 q) = by-rule 3 0 tooManyLines (search listed depth 40) (says-3 h .1 q)
+  breach-given (long a b e n q) = by-rule 4 0 lineTooLong (search listed depth 40) (says-4 h .1 (a, b, e, n, q))
+  breach-given (ends e n) = by-rule 5 0 inputEnds (search listed depth 40) (says-5 h .1 (e, inl n))
+  breach-given (ends-after-CR a e q n) = by-rule 5 0 inputEnds (search listed depth 40) (says-5 h .1 (e, inr (a, q, n)))
+  breach-given (stray b m q) = by-rule 6 0 strayLineEnd (search listed depth 40) (says-6 h .1 (b, m, q))
+  breach-given (no-bar q) = by-rule 8 0 noBarAtTheEnd (search listed depth 40) (says-8 h .1 q)
+  breach-given (unknown q) = by-rule 9 1 identifierUnknown (search listed depth 40) (says-9 .1 q)
+  breach-given (for-later q) = by-rule 10 1 leftForLater (search listed depth 40) (says-10 h .1 q)
+  breach-given (misplaced q) = by-rule 12 1 mayNotStandHere (search listed depth 40) (says-12 h .1 q)
+  breach-given (count q) = by-rule 11 0 (λ h. wrongNumberOfFields (h .contents)) (search listed depth 40) (says-11 h .1 q)
+  breach-given (missing f r i e) = by-field-rule (13, obligatoryFieldEmpty) (search listed depth 40) f r [] i (says-13 name r [] .1 (e, refl))
+  breach-given (byte f r s i b m q) = by-field-rule (14, byteOfTheWrongKind) (search listed depth 40) f r s i (says-14 name r s .1 (b, m, q))
+  breach-given (size f r s i e q) = by-field-rule (15, wrongSize) (search listed depth 40) f r s i (says-15 name r s .1 (e, q))
+  breach-given (zero-in-front f r s i z) = by-field-rule (16, zeroInFront) (search listed depth 40) f r (48 ∷ s) i (says-16 name r (48 ∷ s) .1 (z, (s, refl)))
+  breach-given (no-date f r s i e d q) = by-field-rule (17, noSuchDate) (search listed depth 40) f r s i (says-17 name r s .1 ((e, d), q))
+  breach-given (invalid f r s i e q) = by-field-rule (18, notAValidValue) (search listed depth 40) f r s i (says-18 name r s .1 (e, q))
   breach-given (no-event-date e s q) =
-      by-condition-rule (record { kind = DECPF; field = 9; broken = eventDateMissing }) (search (it, on) depth 40) e (date-missing-says cells .1 (s, q))
+      by-condition-rule (record { kind = DECPF; field = 9; broken = eventDateMissing }) (search listed depth 40) e (date-missing-says cells .1 (s, q))
   breach-given (no-event-type e s q) =
-      by-condition-rule (record { kind = DECPF; field = 10; broken = eventTypeMissing }) (search (it, on) depth 40) e (type-missing-says cells .1 (s, q))
+      by-condition-rule (record { kind = DECPF; field = 10; broken = eventTypeMissing }) (search listed depth 40) e (type-missing-says cells .1 (s, q))
   breach-given (no-death e s t q) =
-      by-condition-rule (record { kind = DECPF; field = 11; broken = deathNotStated }) (search (it, on) depth 40) e (death-says cells .1 ((s, t), q))
+      by-condition-rule (record { kind = DECPF; field = 11; broken = deathNotStated }) (search listed depth 40) e (death-says cells .1 ((s, t), q))
   breach-given (estate e s q) =
-      by-condition-rule (record { kind = DECPF; field = 13; broken = estateStated }) (search (it, on) depth 40) e (estate-says cells .1 (s, q))
-  breach-given (again v r m u) = by-rule 21 1 valueRecordRepeated (search (it, on) depth 40) (says-21 h .1 (v, (r, m, (u .1, u .0))))
+      by-condition-rule (record { kind = DECPF; field = 13; broken = estateStated }) (search listed depth 40) e (estate-says cells .1 (s, q))
+  breach-given (again v r m u) = by-rule 21 1 valueRecordRepeated (search listed depth 40) (says-21 h .1 (v, (r, m, (u .1, u .0))))
   breach-given (not-greater q since r earlier e u n l) =
-      by-rule 20 2 keyNotGreater (search (it, on) depth 40)
+      by-rule 20 2 keyNotGreater (search listed depth 40)
       (says-20 h .1 (q, (r, record { since = since; earlier = earlier; split = e; under = (u .1, u .0); none-since = λ x m w. n x m (w .1, w .0) }, l)))
-  breach-given (full q) = by-rule 7 0 noRoom (search (it, on) depth 40) (says-7 h .1 q)
+  breach-given (full q) = by-rule 7 0 noRoom (search listed depth 40) (says-7 h .1 q)
 
 pub tests-say : (e : Edition) → Sound e → TestsSay e
 unfolding here contentsOf kindOfLine kindOf
 tests-say e sound room before p n f =
     let named : Named (here e room before p) = record { numbered = sound .numbered; kinded = refl } in
-    (breach-given (here e room before p) named, λ g. all-in (Means (here e room before p)) order (order-means (here e room before p) named) (g .0) (g .1) n f (g .2))
+    (breach-given (here e room before p) named, λ g. of-each (order-means (here e room before p) named) (g .0) (g .1) n f (g .2))

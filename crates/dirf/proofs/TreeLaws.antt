@@ -1,12 +1,12 @@
 -- 12: what the test says of the tree.
-use Prim.Native.Nat.{ℕ, zero, suc, _≤_, _<_}
-use mathlib.Core.Path.{_≡_, refl, sym, ap, _∙_, subst}
-use mathlib.Core.Bool.{Bool, true, false, _&&_, _||_, true≢false}
-use mathlib.Core.Logic.{_↔_, _⊎_, inl, inr, ⊎-elim}
+use Prim.Native.Nat.{ℕ, zero, suc}
+use mathlib.Core.Path.{_≡_, refl, sym, subst}
+use mathlib.Core.Bool.{Bool, true, false, _||_, true≢false}
+use mathlib.Core.Logic.{_⊎_, inl, inr, ⊎-elim}
 use mathlib.Core.List.{List, [], _∷_, List·Memᴰ·head, List·Memᴰ·cases-cons, List·Memᴰ·not-nil}
 use mathlib.Core.Option.{Option, none, some}
 use native.Mathlib.Omega.{arith}
-use lib.Dec.{eqb, ltb, leb}
+use lib.Dec.{eqb, ltb}
 use lib.ListN.{length, getD}
 use borrow.Author.Tests.{lt-ltb, le-ltb}
 use Rattle.dirf.specs.Bytes.{if_then_else_, isIn, lookup}
@@ -14,10 +14,9 @@ use Rattle.dirf.specs.Kinds.{Dirf, RESPO, DECPF, DECPJ, IDREC, FIMDirf}
 use Rattle.dirf.specs.Edition.{Edition}
 use Rattle.dirf.specs.Tree.{Rec, Open, opened, opening, declarant, blockOf, mayHold, kindOfFirst}
 use Rattle.dirf.specs.Tree.{Place, placeIn, place, inOrder, isPlaced, mayStand}
-use Rattle.dirf.specs.Theorems.Plain.{_∈_}
 use Rattle.dirf.specs.Theorems.Breach.{Holds, Innermost, here, further, NotBefore}
 use Rattle.dirf.specs.Theorems.Breach.{Below, StandsAfter, Stands}
-use Rattle.dirf.proofs.Says.{Says, says-and, says-or, says-by, denies, eqb-says, leb-says, isIn-says, it, on}
+use Rattle.dirf.proofs.Says.{Says, says-and, says-or, says-by, denies, eqb-says, leb-says, isIn-says, on}
 
 -- a test asked only where another holds
 says-if : {P Q : Type 0} (a b : Bool) → Says a P → Says b Q → Says (if a then b else true) (P → Q)

@@ -3,7 +3,7 @@ use Prim.Native.Nat.{ℕ, suc, _≤_}
 use mathlib.Core.Path.{_≡_, refl, ap, _∙_}
 use mathlib.Core.Bool.{Bool, true, false, _&&_, false≢true}
 use mathlib.Core.Logic.{_≢_}
-use mathlib.Core.List.{List, [], _∷_, _++_, append-nil}
+use mathlib.Core.List.{List, [], _∷_, _++_}
 use native.Mathlib.Omega.{arith}
 use native.Mathlib.Nat.{not-suc-le-zero}
 use lib.Dec.{eqb}
@@ -93,28 +93,13 @@ whole-ended empty = tt
 whole-ended (ends-in-CR-LF s) = ends-good s .0
 
 -- a line with its CR LF is one piece
-push-all : Text → List Piece → List Piece
-push-all [] ps = ps
-push-all (b ∷ s) ps = push b (push-all s ps)
-
 pieces-push : (b : ℕ) (s : Text) → b ≢ 13 → pieces (b ∷ s) ≡ push b (pieces s)
 unfolding pieces
 pieces-push b [] n = refl
 pieces-push b (c ∷ s) n = rw (ne-eqb b CR n)
 
-pieces-front : (c r : Text) → NoLineEnd c → pieces (c ++ r) ≡ push-all c (pieces r)
-unfolding push-all
-pieces-front [] r n = refl
-pieces-front (b ∷ c) r n = pieces-push b (c ++ r) (n b it .0) ∙ ap (push b) (pieces-front c r (λ x m. n x (on m)))
-
-push-all-cons : (c : Text) (p : Piece) (ps : List Piece) → push-all c (p ∷ ps) ≡ record { body = c ++ p .body; ended = p .ended } ∷ ps
-unfolding push-all push
-push-all-cons [] p ps = refl
-push-all-cons (b ∷ c) p ps = ap (push b) (push-all-cons c p ps)
-
 pub line-piece : (line rest : Text) → NoLineEnd line → pieces (line ++ (CR ∷ LF ∷ rest)) ≡ record { body = line; ended = true } ∷ pieces rest
-unfolding pieces
-line-piece line rest n =
-    pieces-front line (CR ∷ LF ∷ rest) n
-    ∙ push-all-cons line emptyLine (pieces rest)
-    ∙ ap (λ l. record { body = l; ended = true } ∷ pieces rest) (append-nil line)
+unfolding pieces push
+line-piece [] rest n = refl
+line-piece (b ∷ line) rest n =
+    pieces-push b (line ++ (CR ∷ LF ∷ rest)) (n b it .0) ∙ ap (push b) (line-piece line rest (λ c m. n c (on m)))

@@ -17,7 +17,8 @@ use Rattle.dirf.specs.Check.{Entry, entryOf, tableOf}
 use Rattle.dirf.specs.Theorems.Sound.{level, Nested, Sound}
 use Rattle.dirf.specs.Theorems.Whose.{kindAt, parentAt, Owned, Whose}
 use Rattle.dirf.proofs.Bools.{and-left, and-right, or-cases, if-cases}
-use Rattle.dirf.proofs.Says.{isIn-says, every-at}
+use Rattle.dirf.proofs.Says.{isIn-says}
+use Rattle.dirf.proofs.Lists.{every-at}
 use Rattle.dirf.proofs.Levels.{level-in, value-level, beneficiary-level, is-holder, is-beneficiary, below-holder}
 use Rattle.dirf.proofs.Levels.{below-beneficiary}
 use Rattle.dirf.proofs.History.{History, start, next, answer-table, table-length, entryAt, entry-last, entry-earlier}

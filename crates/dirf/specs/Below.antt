@@ -3,7 +3,7 @@
 use Prim.Native.Nat.{ℕ}
 use mathlib.Core.List.{List, [], _∷_}
 use lib.Dec.{eqb}
-use Rattle.dirf.specs.Bytes.{if_then_else_, lookup}
+use Rattle.dirf.specs.Bytes.{if_then_else_}
 use Rattle.dirf.specs.Kinds.{DECPF, DECPJ, IDREC, BPFDEC, RTRT, RTPO, RTDP, RTDS, RTIRF, CJAC, CJAA, ESRT, ESPO, ESDP, ESDS}
 use Rattle.dirf.specs.Kinds.{ESIR, ESDJ, RTPP, RTFA, RTSP, ESPP, ESFA, ESSP, RTPA, ESPA, RIDAC, RIIRP, RIAP, RIMOG, RIP65}
 use Rattle.dirf.specs.Kinds.{RIBMR, RICAP, RIRPC, RIL96, RIPTS, RIJMRE, RIO, BPJDEC, FCI, BPFFCI, BPJFCI, PROC, BPFPROC}

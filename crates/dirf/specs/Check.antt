@@ -1,6 +1,5 @@
 -- The check of a file: acceptance with a record table, or the first breach.
 use Prim.Native.Nat.{ℕ, suc, _+_}
-use mathlib.Core.Bool.{Bool, true, false}
 use mathlib.Core.List.{List, [], _∷_, _++_}
 use lib.ListN.{length}
 use Rattle.dirf.specs.Bytes.{if_then_else_, Text}

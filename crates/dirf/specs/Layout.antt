@@ -1,7 +1,7 @@
 -- The field rows of the 56 records of the base, 561 in all, in the sources' order and grouped as the sources group them.
 -- 3.1 to 3.3 are 004's, all others 000's. Beside each row stand its number and its name in the source.
 use Prim.Native.Nat.{ℕ}
-use mathlib.Core.List.{List, [], _∷_, _++_}
+use mathlib.Core.List.{List, [], _∷_}
 use lib.ListN.{replicate}
 use Rattle.dirf.specs.Bytes.{bytes}
 use Rattle.dirf.specs.Row.{Row, row, C, N, D, fixed, variable, obligatory, optional, identifier, amount, months, ddd}

@@ -1,6 +1,6 @@
 -- Every limit and every fixed byte, named once.
 use Prim.Native.Nat.{ℕ, _^_, _-_}
-use mathlib.Core.List.{List, [], _∷_}
+use mathlib.Core.List.{[], _∷_}
 use Rattle.dirf.specs.Bytes.{Text}
 
 -- 01, "Lines and limits": "A line is 0 to 1,024 bytes followed by CR LF."

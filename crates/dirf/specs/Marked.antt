@@ -1,18 +1,18 @@
 -- Document 01's marked examples, M1 to M12, as one list of questions and answers.
 use Prim.Native.Nat.{ℕ}
 use mathlib.Core.Path.{_≡_}
-use mathlib.Core.Bool.{Bool, true}
+use mathlib.Core.Bool.{true}
 use mathlib.Core.List.{List, [], _∷_, _++_}
-use lib.ListN.{length, getD, take, drop, set, replicate}
+use lib.ListN.{length, getD, take, drop, set}
 use Rattle.dirf.specs.Bytes.{Text, bytes, every, same}
 use Rattle.dirf.specs.Limits.{LF, lineEnd}
-use Rattle.dirf.specs.Row.{Row, row, N, D, fixed, obligatory, optional, plain, ddd}
+use Rattle.dirf.specs.Row.{Row, row, N, fixed, optional, plain}
 use Rattle.dirf.specs.Layout.{respoRows, decpfRows}
 use Rattle.dirf.specs.Fields.{fieldOrder}
 use Rattle.dirf.specs.Rules.{Found, keeps, breaks, askField}
 use Rattle.dirf.specs.Edition.{edition2025}
-use Rattle.dirf.specs.Check.{Verdict, verdict}
-use Rattle.dirf.specs.Amounts.{Reading, readAmount}
+use Rattle.dirf.specs.Check.{verdict}
+use Rattle.dirf.specs.Amounts.{readAmount}
 
 -- 01, "The desk program": "Its table has 3,000 entries."
 abbrev pub deskRoom : ℕ

@@ -7,3 +7,4 @@ pub mod GoodSoFar
 pub mod Counts
 pub mod Whose
 pub mod ThereAndBack
+pub mod Demands

@@ -1,6 +1,6 @@
 -- The tree: which record may stand where, and whose it is.
 use Prim.Native.Nat.{ℕ, suc}
-use mathlib.Core.Bool.{Bool, true, false, _&&_, _||_}
+use mathlib.Core.Bool.{Bool, true, _&&_, _||_}
 use mathlib.Core.List.{List, [], _∷_}
 use mathlib.Core.Option.{Option, none, some}
 use lib.Dec.{eqb, ltb, leb}
@@ -8,7 +8,6 @@ use lib.ListN.{length, getD}
 use Rattle.dirf.specs.Bytes.{if_then_else_, Text, isIn, lookup}
 use Rattle.dirf.specs.Kinds.{Dirf, RESPO, DECPF, DECPJ, IDREC, FCI, PROC, RRA, BPFDEC, BPJDEC, BPFFCI, BPJFCI, BPFPROC}
 use Rattle.dirf.specs.Kinds.{BPJPROC, BPFRRA, FIMDirf, isValue}
-use Rattle.dirf.specs.Below.{Children}
 use Rattle.dirf.specs.Edition.{Edition}
 
 -- A record that was read: its kind, its line without the line end, its parent's line number (0: none). The records read so far are

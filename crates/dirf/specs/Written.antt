@@ -1,9 +1,9 @@
 -- What a writer answers, and what it leaves in the output.
 use Prim.Native.Nat.{ℕ}
-use mathlib.Core.List.{List, [], _∷_, _++_}
+use mathlib.Core.List.{[], _++_}
 use lib.ListN.{length, drop}
 use Rattle.dirf.specs.Bytes.{Text}
-use Rattle.dirf.specs.Rules.{Found, keeps, breaks, Rule, first}
+use Rattle.dirf.specs.Rules.{Found, keeps, breaks}
 
 -- 01, "The line writer": the number, 0 when written; the field; and the bytes written, whose count is given, 0 on refusal
 pub record Written : Type 0 where

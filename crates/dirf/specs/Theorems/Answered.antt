@@ -1,9 +1,9 @@
 -- Demand 2: "A file is accepted exactly when it is closed, within the limits, fits the table, and no line breaks a field, nesting,
 -- condition or order rule. Otherwise the first breach in document 01's order is named."
-use Prim.Native.Nat.{ℕ, suc}
+use Prim.Native.Nat.{ℕ}
 use mathlib.Core.Path.{_≡_}
 use mathlib.Core.Bool.{Bool, true}
-use mathlib.Core.Logic.{_↔_, _≢_}
+use mathlib.Core.Logic.{_↔_}
 use mathlib.Core.List.{List, [], _∷_, _++_}
 use Rattle.dirf.specs.Bytes.{Text}
 use Rattle.dirf.specs.Kinds.{FIMDirf}
@@ -12,13 +12,12 @@ use Rattle.dirf.specs.Fields.{FieldRule}
 use Rattle.dirf.specs.Conditions.{Condition}
 use Rattle.dirf.specs.Edition.{Edition}
 use Rattle.dirf.specs.Lines.{Piece, pieces}
-use Rattle.dirf.specs.Rules.{Found, keeps, breaks, Contents, Rule, gives, fieldByField, conditions, ask}
+use Rattle.dirf.specs.Rules.{keeps, breaks, Contents, Rule, gives, fieldByField, conditions, ask}
 use Rattle.dirf.specs.Tree.{Rec}
 use Rattle.dirf.specs.Order.{Here, here, order}
 use Rattle.dirf.specs.Check.{Verdict, recOf, refused, accepted, verdict}
 use Rattle.dirf.specs.Theorems.Plain.{_∈_, Nth}
 use Rattle.dirf.specs.Theorems.Breach.{Breach}
-use Rattle.dirf.specs.Theorems.Sound.{Sound}
 
 -- the records that lines make, after those before, last first
 abbrev pub recs : Edition → List Rec → List Piece → List Rec

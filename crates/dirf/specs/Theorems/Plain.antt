@@ -1,11 +1,11 @@
 -- Plain words of mathematics that the statements use: membership, places in a list, dates, smaller keys.
-use Prim.Native.Nat.{ℕ, suc, _+_, _%_, _≤_, _<_}
+use Prim.Native.Nat.{ℕ, suc, _%_, _≤_, _<_}
 use mathlib.Core.Path.{_≡_}
 use mathlib.Core.Logic.{_⊎_, _≢_}
 use mathlib.Core.List.{List, [], _∷_, _++_, List·Memᴰ}
-use lib.ListN.{length, take, drop}
+use lib.ListN.{take, drop}
 use Rattle.dirf.specs.Bytes.{Text}
-use Rattle.dirf.specs.Row.{Row, Format, C, N, D, Fill, fixed, variable}
+use Rattle.dirf.specs.Row.{Format, C, N, D, Fill, fixed, variable}
 use Rattle.dirf.specs.Row.{Holds, identifier, amount, months, ddd, telephone, cpf, cnpj, cpfOrCnpj, plain, oneOf}
 use Rattle.dirf.specs.Numbers.{valueOf}
 

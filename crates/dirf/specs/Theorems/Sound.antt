@@ -1,13 +1,14 @@
 -- What is asked of an edition: computed tests over its tables, proved once for each edition. The theorems hold for every such edition.
-use Prim.Native.Nat.{ℕ, suc, _≤_, _<_}
+use Prim.Native.Nat.{ℕ, _≤_, _<_}
 use mathlib.Core.Path.{_≡_}
-use mathlib.Core.Bool.{Bool, true, false, not}
+use mathlib.Core.Bool.{true, false, not}
 use mathlib.Core.Logic.{_≢_}
-use mathlib.Core.List.{List, [], _∷_}
+use mathlib.Core.List.{List, [], _∷_, map}
 use lib.Dec.{eqb}
 use lib.ListN.{length}
 use Rattle.dirf.specs.Bytes.{if_then_else_, Text, every, isIn, lookup}
 use Rattle.dirf.specs.Kinds.{IDREC, SCP, FIMDirf, isValue, isBeneficiary, isBlock}
+use Rattle.dirf.specs.Row.{Row, Need, obligatory, optional, Holds, identifier, plain}
 use Rattle.dirf.specs.Edition.{Edition}
 use Rattle.dirf.specs.Tables.{RowsRight, KindsRight}
 use Rattle.dirf.specs.Rules.{keeps, first}
@@ -50,10 +51,16 @@ pub record Closable (e : Edition) : Type 0 where
   pub open3 : kindOfLine e line3 ≢ FIMDirf
   pub closes : kindOfLine e last ≡ FIMDirf
 
+abbrev pub firstOf : List Row → Need × Holds
+firstOf [] = (optional, plain)
+firstOf (r ∷ rs) = (r .need, r .holds)
+
 pub record Sound (e : Edition) : Type 0 where
   pub rows : RowsRight e
   pub kinds : KindsRight e
   -- no kind has number 0
   pub numbered : every (λ n. not (eqb (n .0) 0)) (e .names) ≡ true
+  -- every field table begins with the record's identifier, obligatory
+  pub identified : map (λ g. firstOf (g .1)) (e .layout) ≡ map (λ g. (obligatory, identifier)) (e .layout)
   pub nested : (d h k : ℕ) → isIn k (lookup [] (e .below d) h) ≡ true → Nested h k
   pub closable : Closable e

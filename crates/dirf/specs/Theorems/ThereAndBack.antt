@@ -2,12 +2,9 @@
 use Prim.Native.Nat.{ℕ, _+_, _≤_}
 use mathlib.Core.Path.{_≡_}
 use mathlib.Core.Bool.{true, false}
-use mathlib.Core.Logic.{_≢_}
 use mathlib.Core.List.{List, [], _∷_, _++_, map}
 use lib.ListN.{length, take, drop}
 use Rattle.dirf.specs.Bytes.{Text}
-use Rattle.dirf.specs.Limits.{amountSize, monthSize}
-use Rattle.dirf.specs.Row.{Row}
 use Rattle.dirf.specs.Edition.{Edition}
 use Rattle.dirf.specs.Lines.{Piece, pieces, fields}
 use Rattle.dirf.specs.Tree.{Rec}
@@ -15,7 +12,7 @@ use Rattle.dirf.specs.Keys.{keyLess}
 use Rattle.dirf.specs.Order.{here, kindOfLine}
 use Rattle.dirf.specs.FieldReader.{fieldThere, fieldOf, fieldStart, fieldLength}
 use Rattle.dirf.specs.Amounts.{readAmount, readMonths, writeAmount, writeMonths}
-use Rattle.dirf.specs.LineWriter.{cut, writeLine, joined}
+use Rattle.dirf.specs.LineWriter.{cut, writeLine}
 use Rattle.dirf.specs.Theorems.Plain.{_∈_}
 use Rattle.dirf.specs.Theorems.Breach.{Breach}
 

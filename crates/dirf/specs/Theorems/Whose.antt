@@ -1,9 +1,9 @@
 -- Whose is it? The sentence that the whole project is for: no amount can land on the person above a line that was not read.
 -- It speaks of the record table of any answer, acceptance or refusal, line by line; lines count from 1.
-use Prim.Native.Nat.{ℕ, _-_, _≤_, _<_}
+use Prim.Native.Nat.{ℕ, _≤_, _<_}
 use mathlib.Core.Path.{_≡_}
 use mathlib.Core.Logic.{_⊎_}
-use mathlib.Core.List.{List, [], _∷_}
+use mathlib.Core.List.{List, _∷_}
 use lib.ListN.{length, getD}
 use Rattle.dirf.specs.Bytes.{Text}
 use Rattle.dirf.specs.Kinds.{IDREC, SCP, beneficiaries, values}
