@@ -18,6 +18,7 @@ pub mod Edition2025
 pub mod WholeLaws
 pub mod GoodSoFar
 pub mod Levels
+pub mod Parents
 pub mod History
 pub mod OpenRecords
 pub mod Whose
@@ -30,3 +31,4 @@ pub mod NumbersBack
 pub mod Base
 pub mod WriterBack
 pub mod Demands
+pub mod Siblings

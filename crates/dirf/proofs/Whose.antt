@@ -2,51 +2,24 @@
 use Prim.Native.Nat.{ℕ, suc, _≤_, _<_}
 use mathlib.Core.Path.{_≡_, refl, sym, ap, ap₂, _∙_}
 use mathlib.Core.Bool.{true}
-use mathlib.Core.Logic.{⊎-elim}
 use mathlib.Core.List.{List, [], _∷_}
 use native.Mathlib.Omega.{arith}
-use lib.Dec.{eqb, ltb}
-use lib.ListN.{length, getD}
-use borrow.Author.Tests.{eqb-true, eq-eqb, ltb-true, ltb-false}
-use Rattle.dirf.specs.Bytes.{every, isIn, lookup, bytes-opens}
-use Rattle.dirf.specs.Kinds.{IDREC, FIMDirf, kinds-opens}
+use lib.ListN.{length}
+use borrow.Author.Tests.{eqb-true, eq-eqb}
+use Rattle.dirf.specs.Bytes.{isIn, lookup}
+use Rattle.dirf.specs.Kinds.{IDREC}
 use Rattle.dirf.specs.Edition.{Edition}
-use Rattle.dirf.specs.Tree.{Rec, Open, opening, declarant, blockOf, mayHold, kindOfFirst, numberOfFirst, place, parentOf}
-use Rattle.dirf.specs.Tree.{inOrder, isPlaced, mayStand}
+use Rattle.dirf.specs.Tree.{Rec, Open, declarant, blockOf, mayHold, kindOfFirst, numberOfFirst, parentOf}
 use Rattle.dirf.specs.Check.{Entry, entryOf, tableOf}
 use Rattle.dirf.specs.Theorems.Sound.{level, Nested, Sound}
 use Rattle.dirf.specs.Theorems.Whose.{kindAt, parentAt, Owned, Whose}
-use Rattle.dirf.proofs.Bools.{and-left, and-right, or-cases, if-cases}
-use Rattle.dirf.proofs.Says.{isIn-says}
-use Rattle.dirf.proofs.Lists.{every-at}
-use Rattle.dirf.proofs.Levels.{level-in, value-level, beneficiary-level, is-holder, is-beneficiary, below-holder}
+use Rattle.dirf.proofs.Bools.{and-right}
+use Rattle.dirf.proofs.Levels.{value-level, beneficiary-level, is-holder, is-beneficiary, below-holder}
 use Rattle.dirf.proofs.Levels.{below-beneficiary}
+use Rattle.dirf.proofs.Parents.{has-parent}
 use Rattle.dirf.proofs.History.{History, start, next, answer-table, table-length, entryAt, entry-last, entry-earlier}
 use Rattle.dirf.proofs.History.{line-cases, declarant-line}
 use Rattle.dirf.proofs.OpenRecords.{OpenRecords, none-open, innermost, first-number, first-kind, Holder, nests, placed}
-
-opening-level : (k n : ℕ) → isIn k (getD opening n []) ≡ true → level k ≡ 0
-unfolding bytes-opens kinds-opens opening level
-opening-level k n i =
-    level-in 0 (every-at (every (λ k. eqb (level k) 0)) opening n [] refl refl) (isIn-says k (getD opening n []) .0 i)
-
-FIMDirf-level : level FIMDirf ≡ 0
-unfolding bytes-opens kinds-opens level
-FIMDirf-level = refl
-
--- what stands deeper than the declarant stands after line 3, below an open record
-has-parent : (e : Edition) (before : List Rec) (k : ℕ) → 0 < level k → mayStand e before k ≡ true
-    → (3 ≤ length before) × (0 < length (place e before k .up))
-unfolding opening isPlaced mayStand
-has-parent e before k deep =
-    if-cases (λ t. t ≡ true → (3 ≤ length before) × (0 < length (place e before k .up))) (ltb (length before) 3)
-    (λ _ i. absurd (omega (arith, opening-level k (length before) i)))
-    (λ after i. (
-      ltb-false (length before) 3 after,
-      ⊎-elim (λ f. absurd (omega (arith, ap level (eqb-true k FIMDirf f), FIMDirf-level)))
-          (λ p. ltb-true 0 (length (place e before k .up)) (and-left _ (inOrder (place e before k .last) k) p))
-          (or-cases (eqb k FIMDirf) (isPlaced (place e before k) k) i),
-    ))
 
 own-block : (e : Edition) (d h u k : ℕ) → mayHold e d h u k ≡ true → h ≡ IDREC → u ≡ blockOf d k
 unfolding mayHold
