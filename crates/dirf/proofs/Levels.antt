@@ -1,17 +1,19 @@
 -- The level of a kind says what it is: value record, beneficiary, IDREC or SCP.
 use Prim.Native.Nat.{ℕ, _<_}
 use mathlib.Core.Path.{_≡_, refl, sym, _∙_}
-use mathlib.Core.Bool.{true, false, true≢false}
+use mathlib.Core.Bool.{Bool, true, false, _&&_, _||_, true≢false, false≢true}
 use mathlib.Core.Logic.{_⊎_, inl, inr, ⊎-elim}
 use mathlib.Core.List.{List, [], _∷_, List·Memᴰ·cases-cons, List·Memᴰ·eq-of-singleton}
 use native.Mathlib.Omega.{arith}
-use lib.Dec.{eqb}
-use borrow.Author.Tests.{eqb-true}
+use lib.Dec.{eqb, ltb}
+use lib.ListN.{length}
+use borrow.Author.Tests.{eqb-true, ltb-true}
 use Rattle.dirf.specs.Bytes.{every, isIn, bytes-opens}
-use Rattle.dirf.specs.Kinds.{IDREC, SCP, beneficiaries, values, isValue, isBeneficiary, isBlock, kinds-opens}
+use Rattle.dirf.specs.Kinds.{IDREC, FCI, PROC, RRA, SCP, beneficiaries, values, isValue, isBeneficiary, isBlock, kinds-opens}
+use Rattle.dirf.specs.Keys.{keyFields, hasKey}
 use Rattle.dirf.specs.Theorems.Plain.{_∈_}
 use Rattle.dirf.specs.Theorems.Sound.{level}
-use Rattle.dirf.proofs.Bools.{if-cases}
+use Rattle.dirf.proofs.Bools.{if-cases, and-left, and-right, or-cases, unless-true}
 use Rattle.dirf.proofs.Says.{isIn-says}
 use Rattle.dirf.proofs.Lists.{every-in}
 
@@ -60,3 +62,27 @@ below-beneficiary k l = ⊎-elim (λ b. absurd (omega (arith, beneficiary-level 
 
 pub is-beneficiary : (k : ℕ) → level k ≡ 3 → k ∈ beneficiaries
 is-beneficiary k l = ⊎-elim (λ b. b) (λ v. absurd (omega (arith, value-level v))) (below-holder k (omega arith))
+
+-- what has a key stands below the declarant, and opens
+between : ℕ → Bool
+between k = ltb 0 (level k) && ltb (level k) 4
+
+key-level : (k : ℕ) → hasKey k ≡ true → between k ≡ true
+unfolding hasKey keyFields isBeneficiary bytes-opens kinds-opens level between
+key-level k =
+    if-cases (λ (fs : List ℕ). ltb 0 (length fs) ≡ true → between k ≡ true) (isIn k (PROC ∷ RRA ∷ []))
+    (λ h _. every-in between (isIn-says k (PROC ∷ RRA ∷ []) .0 h) refl)
+    (λ _.
+    if-cases (λ (fs : List ℕ). ltb 0 (length fs) ≡ true → between k ≡ true) (isIn k (IDREC ∷ FCI ∷ SCP ∷ []) || isBeneficiary k)
+    (λ h _. ⊎-elim (λ i. every-in between (isIn-says k (IDREC ∷ FCI ∷ SCP ∷ []) .0 i) refl) (λ b. every-in between (isIn-says k beneficiaries .0 b) refl)
+    (or-cases (isIn k (IDREC ∷ FCI ∷ SCP ∷ [])) (isBeneficiary k) h))
+    (λ _ e. absurd (false≢true e)))
+
+pub key-below : (k : ℕ) → hasKey k ≡ true → 0 < level k
+unfolding between
+key-below k h = ltb-true 0 (level k) (and-left (ltb 0 (level k)) _ (key-level k h))
+
+pub key-opens : (k : ℕ) → hasKey k ≡ true → isValue k ≡ false
+unfolding between isValue
+key-opens k h =
+    unless-true (isValue k) (λ v. omega (arith, value-level (isIn-says k values .0 v), ltb-true (level k) 4 (and-right (ltb 0 (level k)) _ (key-level k h))))

@@ -32,3 +32,4 @@ pub mod Base
 pub mod WriterBack
 pub mod Demands
 pub mod Siblings
+pub mod ValuePlace

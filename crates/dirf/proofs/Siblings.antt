@@ -44,7 +44,7 @@ own before none j = none
 own before (some o) j = if eqb (o .kind) j then some (recAt before (o .number)) else none
 
 -- one more record, looked back from
-last-skip : (r : Rec) (rs : List Rec) (p j : ℕ) → ((r .parent ≡ p) × (r .kind ≡ j) → ⊥) → lastUnder (r ∷ rs) p j ≡ lastUnder rs p j
+pub last-skip : (r : Rec) (rs : List Rec) (p j : ℕ) → ((r .parent ≡ p) × (r .kind ≡ j) → ⊥) → lastUnder (r ∷ rs) p j ≡ lastUnder rs p j
 unfolding lastUnder
 last-skip r rs p j n = go (eqb (r .parent) p) (eqb (r .kind) j) refl refl
   where
@@ -53,12 +53,12 @@ last-skip r rs p j n = go (eqb (r .parent) p) (eqb (r .kind) j) refl refl
     go true false x y = refl
     go false b x y = refl
 
-last-here : (r : Rec) (rs : List Rec) (p j : ℕ) → r .parent ≡ p → r .kind ≡ j → lastUnder (r ∷ rs) p j ≡ some r
+pub last-here : (r : Rec) (rs : List Rec) (p j : ℕ) → r .parent ≡ p → r .kind ≡ j → lastUnder (r ∷ rs) p j ≡ some r
 unfolding lastUnder
 last-here r rs p j e q = rw (eq-eqb (r .parent) p e, eq-eqb (r .kind) j q)
 
 -- no record stands under a line that is not there yet
-none-under : {e : Edition} (sound : Sound e) {before : List Rec} → History e before → (p j : ℕ) → length before < p → lastUnder before p j ≡ none
+pub none-under : {e : Edition} (sound : Sound e) {before : List Rec} → History e before → (p j : ℕ) → length before < p → lastUnder before p j ≡ none
 unfolding lastUnder parentOf
 none-under sound start p j h = refl
 none-under {e} sound (next {r = r} {before = before} stands parent hist) p j h =

@@ -3,7 +3,7 @@ use Prim.Native.Nat.{ℕ, suc, _≤_}
 use mathlib.Core.Path.{_≡_, refl, ap, _∙_}
 use mathlib.Core.Bool.{Bool, true, false, _&&_, false≢true}
 use mathlib.Core.Logic.{_≢_}
-use mathlib.Core.List.{List, [], _∷_, _++_}
+use mathlib.Core.List.{List, [], _∷_, _++_, append-nil}
 use native.Mathlib.Omega.{arith}
 use native.Mathlib.Nat.{not-suc-le-zero}
 use lib.Dec.{eqb}
@@ -92,14 +92,26 @@ unfolding pieces
 whole-ended empty = tt
 whole-ended (ends-in-CR-LF s) = ends-good s .0
 
--- a line with its CR LF is one piece
-pieces-push : (b : ℕ) (s : Text) → b ≢ 13 → pieces (b ∷ s) ≡ push b (pieces s)
+pub pieces-push : (b : ℕ) (s : Text) → b ≢ 13 → pieces (b ∷ s) ≡ push b (pieces s)
 unfolding pieces
 pieces-push b [] n = refl
 pieces-push b (c ∷ s) n = rw (ne-eqb b CR n)
 
+-- what stands before any CR or LF goes to the first piece of the rest
+pub pieces-front : (c r : Text) (q : Piece) (qs : List Piece) → NoLineEnd c → pieces r ≡ q ∷ qs
+    → pieces (c ++ r) ≡ record { body = c ++ q .body; ended = q .ended } ∷ qs
+unfolding push
+pieces-front [] r q qs n e = e
+pieces-front (b ∷ c) r q qs n e = pieces-push b (c ++ r) (n b it .0) ∙ ap (push b) (pieces-front c r q qs (λ x m. n x (on m)) e)
+
+-- a line with its CR LF is one piece
 pub line-piece : (line rest : Text) → NoLineEnd line → pieces (line ++ (CR ∷ LF ∷ rest)) ≡ record { body = line; ended = true } ∷ pieces rest
+unfolding pieces
+line-piece line rest n =
+    pieces-front line (CR ∷ LF ∷ rest) emptyLine (pieces rest) n refl ∙ ap (λ l. record { body = l; ended = true } ∷ pieces rest) (append-nil line)
+
+-- bytes with no line end at all are one piece that is not ended
+pub rest-piece : (b : ℕ) (s : Text) → NoLineEnd (b ∷ s) → pieces (b ∷ s) ≡ record { body = b ∷ s; ended = false } ∷ []
 unfolding pieces push
-line-piece [] rest n = refl
-line-piece (b ∷ line) rest n =
-    pieces-push b (line ++ (CR ∷ LF ∷ rest)) (n b it .0) ∙ ap (push b) (line-piece line rest (λ c m. n c (on m)))
+rest-piece b [] n = refl
+rest-piece b (c ∷ s) n = pieces-push b (c ∷ s) (n b it .0) ∙ ap (push b) (rest-piece c s (λ x m. n x (on m)))

@@ -1,0 +1,9 @@
+pub mod Compare
+pub mod Bars
+pub mod Spots
+pub mod Walk
+pub mod Arms
+pub mod Keys
+pub mod PlaceLaws
+pub mod Determined
+pub mod Inside

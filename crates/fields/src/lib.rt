@@ -1,0 +1,217 @@
+// The field reader, the places of a line's fields, and the order of keys.
+ghost use mathlib.Core.Path.{_≡_};
+ghost use mathlib.Core.List.{[], _∷_};
+ghost use Prim.Native.Nat.{_+_, _≤_, _<_, min};
+ghost use lib.ListN.{length, drop};
+ghost use denote.Ref.{ptr};
+ghost use Rattle.dirf.specs.Bytes.{same as sameText, less as lessText};
+ghost use Rattle.dirf.specs.FieldReader.{fieldThere, fieldOf, fieldStart};
+ghost use Rattle.dirf.specs.Keys.{keyFields, keyLess};
+ghost use Rattle.fields.specs.Places.{partOf, placeOf, addPlace, placesOf, keyParts, barIn};
+
+// Where a field stands in its line.
+pub struct Place {
+    pub there: bool,
+    pub start: usize,
+    pub len: usize,
+}
+
+// Where the fields of a line stand: how many there are, and the first fifteen's starts and lengths.
+pub struct Places {
+    pub count: usize,
+    pub starts: [usize; 15],
+    pub lens: [usize; 15],
+}
+
+// The part at a place, as a part of the caller's own bytes; past the end there is nothing.
+pub fn part(s: &[u8], start: usize, len: usize) -> &[u8]
+    ensures { λ r. ⌜ (now r ≡ partOf (now (s .entry)) start len) × ((ptr r .0 ≡ ptr (s .entry) .0) × (ptr r .1 ≡ ptr (s .entry) .1 + min start (length (now (s .entry))))) ⌝ }
+{
+    let n = s.len();
+    if n <= start {
+        return &s[n..n];
+    }
+    if n - start <= len {
+        return &s[start..n];
+    }
+    let end = start + len;
+    &s[start..end]
+}
+
+// Byte for byte, case kept.
+pub fn same(a: &[u8], b: &[u8]) -> bool
+    ensures { λ r. ⌜ r ≡ sameText (now (a .entry)) (now (b .entry)) ⌝ }
+{
+    let mut i = 0;
+    while i < a.len() {
+        if b.len() <= i {
+            return false;
+        }
+        if a[i] != b[i] {
+            return false;
+        }
+        i += 1;
+    }
+    if i < b.len() {
+        return false;
+    }
+    true
+}
+
+// Byte by byte, a proper beginning first.
+pub fn less(a: &[u8], b: &[u8]) -> bool
+    ensures { λ r. ⌜ r ≡ lessText (now (a .entry)) (now (b .entry)) ⌝ }
+{
+    let mut i = 0;
+    while i < a.len() {
+        if b.len() <= i {
+            return false;
+        }
+        if a[i] != b[i] {
+            return a[i] < b[i];
+        }
+        i += 1;
+    }
+    i < b.len()
+}
+
+// Whether the key of fields 2 and 3, a then b, comes before that of x then y: of the first field alone, or of both.
+fn then_less(a: &[u8], b: &[u8], x: &[u8], y: &[u8]) -> bool
+    ensures { λ r. ⌜ r ≡ keyLess (now (a .entry) ∷ now (b .entry) ∷ []) (now (x .entry) ∷ now (y .entry) ∷ []) ⌝ }
+{
+    if less(a, x) {
+        return true;
+    }
+    if same(a, x) {
+        return less(b, y);
+    }
+    false
+}
+
+// Whether the key of a record of kind k, out of its fields 2 and 3, comes before another's of that kind.
+pub fn key_less(k: u32, a: &[u8], b: &[u8], x: &[u8], y: &[u8]) -> bool
+    ensures { λ r. ⌜ r ≡ keyLess (keyParts k (now (a .entry)) (now (b .entry))) (keyParts k (now (x .entry)) (now (y .entry))) ⌝ }
+{
+    match key_count(k) {
+        2 => then_less(a, b, x, y),
+        1 => less(a, x),
+        _ => false,
+    }
+}
+
+// How many fields the key of a kind has: field 2, or fields 2 and 3.
+pub fn key_count(k: u32) -> usize
+    ensures { λ r. ⌜ r ≡ length (keyFields k) ⌝ }
+{
+    match k {
+        // PROC, RRA
+        51 | 55 => 2,
+        // IDREC, FCI, SCP
+        5 | 48 | 59 => 1,
+        // BPFDEC, BPFFCI, BPFPROC, BPFRRA, BPFSCP
+        6 | 49 | 52 | 56 | 60 => 1,
+        // BPJDEC, BPJFCI, BPJPROC, BPJSCP
+        44 | 50 | 54 | 62 => 1,
+        _ => 0,
+    }
+}
+
+// The first bar at or after `from`, else the line's end.
+fn bar_from(line: &[u8], from: usize) -> usize
+    requires { ⌜ from ≤ length (now line) ⌝ }
+    ensures { λ r. ⌜ r ≡ from + barIn (drop from (now (line .entry))) ⌝ }
+{
+    let mut i = from;
+    while i < line.len() {
+        if line[i] == 124 {
+            return i;
+        }
+        i += 1;
+    }
+    i
+}
+
+// Where field k stands; where there is none, the empty part at the line's end.
+pub fn place_of(line: &[u8], k: usize) -> Place
+    ensures { λ r. ⌜ r ≡ placeOf (now (line .entry)) k ⌝ }
+{
+    let mut start = 0;
+    let mut left = k;
+    while 0 < left {
+        let e = bar_from(line, start);
+        if line.len() <= e {
+            return Place {
+                there: false,
+                start: line.len(),
+                len: 0,
+            };
+        }
+        if left == 1 {
+            return Place {
+                there: true,
+                start: start,
+                len: e - start,
+            };
+        }
+        start = e + 1;
+        left -= 1;
+    }
+    Place {
+        there: false,
+        start: line.len(),
+        len: 0,
+    }
+}
+
+// Field k, as a part of the caller's own line: its bytes, and where in the line they stand.
+pub fn field(line: &[u8], k: usize) -> &[u8]
+    ensures { λ r. ⌜ (now r ≡ fieldOf k (now (line .entry))) × ((ptr r .0 ≡ ptr (line .entry) .0) × (ptr r .1 ≡ ptr (line .entry) .1 + fieldStart k (now (line .entry)))) ⌝ }
+{
+    let p = place_of(line, k);
+    let s = p.start;
+    let e = s + p.len;
+    &line[s..e]
+}
+
+// Whether there is a field k.
+pub fn field_there(line: &[u8], k: usize) -> bool
+    ensures { λ r. ⌜ r ≡ fieldThere k (now (line .entry)) ⌝ }
+{
+    place_of(line, k).there
+}
+
+// The places with one field more; past the fifteenth only the count goes on.
+fn add_place(p: Places, start: usize, len: usize) -> Places
+    requires { ⌜ p .count < 18446744073709551615 ⌝ }
+    ensures { λ r. ⌜ r ≡ addPlace p start len ⌝ }
+{
+    let mut next = p;
+    let n = p.count;
+    next.count = n + 1;
+    if n < 15 {
+        next.starts[n] = start;
+        next.lens[n] = len;
+    }
+    next
+}
+
+// The places of a line's fields, in one walk from bar to bar.
+pub fn places_of(line: &[u8]) -> Places
+    ensures { λ r. ⌜ r ≡ placesOf (now (line .entry)) ⌝ }
+{
+    let mut p = Places {
+        count: 0,
+        starts: [0; 15],
+        lens: [0; 15],
+    };
+    let mut start = 0;
+    let mut i = 0;
+    while i < line.len() {
+        if line[i] == 124 {
+            p = add_place(p, start, i - start);
+            start = i + 1;
+        }
+        i += 1;
+    }
+    p
+}
