@@ -1,0 +1,5 @@
+pub mod Tab
+pub mod Past
+pub mod Arms
+pub mod Search
+pub mod Laws

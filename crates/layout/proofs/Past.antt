@@ -1,0 +1,61 @@
+-- A number past the kinds is none that a table names: one computed test over the table's own numbers.
+use Prim.Native.Nat.{ℕ, _≤_, _<_}
+use mathlib.Core.Path.{_≡_, refl}
+use mathlib.Core.Bool.{Bool, true, false, _&&_}
+use mathlib.Core.List.{List, [], _∷_}
+use native.Mathlib.Omega.{arith}
+use lib.Dec.{eqb, ltb}
+use borrow.Author.Tests.{ltb-true, ltb-false, ne-eqb}
+use Rattle.dirf.specs.Bytes.{if_then_else_, every, some, isIn, lookup}
+use Rattle.dirf.specs.Row.{Row}
+use Rattle.dirf.specs.Edition as edition
+use Rattle.dirf.proofs.Bools.{and-left, and-right}
+
+abbrev pub isKind : ℕ → Bool
+isKind x = ltb x 74
+
+-- a kind, 0 included, or past the kinds
+pub by-kind : {P : Type 0} (k : ℕ) → (k < 74 → P) → (74 ≤ k → P) → P
+by-kind {P} k kind past = go (isKind k) refl
+  where
+    go : (b : Bool) → isKind k ≡ b → P
+    go true e = kind (ltb-true k 74 e)
+    go false e = past (ltb-false k 74 e)
+
+module _ {A : Type 0} (test : A → Bool) (x : A) (xs : List A) (all : every test (x ∷ xs) ≡ true) where
+  pub every-first : test x ≡ true
+  unfolding every
+  every-first = and-left (test x) (every test xs) all
+
+  pub every-rest : every test xs ≡ true
+  unfolding every
+  every-rest = and-right (test x) (every test xs) all
+
+module _ (k : ℕ) (past : 74 ≤ k) where
+  other : (x : ℕ) → isKind x ≡ true → eqb k x ≡ false
+  other x e = let l = ltb-true x 74 e in ne-eqb k x (λ q. omega arith)
+
+  pub some-past : {A : Type 0} (f : A → ℕ) (xs : List A) → every (λ x. isKind (f x)) xs ≡ true → some (λ x. eqb k (f x)) xs ≡ false
+  unfolding some
+  some-past f [] e = refl
+  some-past f (x ∷ xs) e =
+      rw (other (f x) (every-first (λ x. isKind (f x)) x xs e))
+      (some-past f xs (every-rest (λ x. isKind (f x)) x xs e))
+
+  pub isIn-past : (xs : List ℕ) → every isKind xs ≡ true → isIn k xs ≡ false
+  unfolding isIn
+  isIn-past xs e = some-past (λ x. x) xs e
+
+  pub lookup-past : {A : Type 0} (d : A) (rs : List (ℕ × A)) → every (λ r. isKind (r .0)) rs ≡ true → lookup d rs k ≡ d
+  unfolding lookup
+  lookup-past d [] e = refl
+  lookup-past d (r ∷ rs) e =
+      rw (other (r .0) (every-first (λ r. isKind (r .0)) r rs e))
+      (lookup-past d rs (every-rest (λ r. isKind (r .0)) r rs e))
+
+  pub rows-past : (gs : List (List ℕ × List Row)) → every (λ g. every isKind (g .0)) gs ≡ true → edition.rowsIn gs k ≡ []
+  unfolding edition.rowsIn
+  rows-past [] e = refl
+  rows-past (g ∷ gs) e =
+      rw (isIn-past (g .0) (every-first (λ g. every isKind (g .0)) g gs e))
+      (rows-past gs (every-rest (λ g. every isKind (g .0)) g gs e))

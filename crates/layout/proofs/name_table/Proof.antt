@@ -1,0 +1,14 @@
+-- The constant is the table of identifiers, by computing.
+use mathlib.Core.Path.{refl}
+use Rattle.dirf.specs.Bytes.{bytes-opens}
+use Rattle.dirf.specs.Edition.{edition-opens}
+use Rattle.layout.specs.Tables.{nameTable, slotOf, concat}
+use Rattle.layout.proofs.name_table.Statement.{statement}
+use Rattle.layout.proofs.name_table.Tie as tie
+
+returns : tie.Need-returns
+unfolding nameTable slotOf concat bytes-opens edition-opens
+returns c = refl
+
+pub name-table-spec : {M : Type 1} → statement M
+name-table-spec = tie.close (tie.spec returns)
