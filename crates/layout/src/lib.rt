@@ -3,7 +3,7 @@
 ghost use mathlib.Core.Path.{_≡_};
 ghost use Prim.Native.Nat.{_+_};
 ghost use denote.Ref.{ptr};
-ghost use Rattle.dirf.specs.Kinds.{isLater, isValue};
+ghost use Rattle.dirf.specs.Kinds.{isLater, isValue, isBlock, isBeneficiary};
 ghost use Rattle.dirf.specs.Edition.{edition2025, kindIn, isBase};
 ghost use Rattle.dirf.specs.Tree.{blockOf};
 ghost use Rattle.layout.specs.Tables.{nameIn, nameStart, namesIn, countIn, yesIn, holdsIn, nameTable, rowTable, pfTable, pjTable};
@@ -462,6 +462,24 @@ pub fn block_of(d: u32, k: u32) -> u32
         52 | 54 => 51,
         56 => 55,
         _ => 0,
+    }
+}
+
+pub fn is_block(k: u32) -> bool
+    ensures { λ r. ⌜ r ≡ isBlock k ⌝ }
+{
+    match k {
+        48 | 51 | 55 | 59 => true,
+        _ => false,
+    }
+}
+
+pub fn is_beneficiary(k: u32) -> bool
+    ensures { λ r. ⌜ r ≡ isBeneficiary k ⌝ }
+{
+    match k {
+        6 | 44 | 49..=50 | 52 | 54 | 56 | 60 | 62 => true,
+        _ => false,
     }
 }
 
