@@ -109,7 +109,7 @@ module _ (test : ℕ → Bool) where
   field-passes f xs name r s e =
       all-pass _ _ (field-tries f name r s) test xs (λ x m. given-passes (x .0) f (x .1 name r s) (every-in (λ y. test (y .0)) m e))
 
-  fields-pass : (f : ℕ) (xs : List FieldRule) (name : Text) (rs : List Row) (cs : List Text) → every (λ x. test (x .0)) xs ≡ true
+  pub fields-pass : (f : ℕ) (xs : List FieldRule) (name : Text) (rs : List Row) (cs : List Text) → every (λ x. test (x .0)) xs ≡ true
       → Passes test (askFields f xs name rs cs)
   unfolding askFields
   fields-pass f xs name [] cs e = tt
@@ -118,7 +118,7 @@ module _ (test : ℕ → Bool) where
       or-else-passes test (askField f xs name r c) (askFields (suc f) xs name rs cs)
       (field-passes f xs name r c e) (fields-pass (suc f) xs name rs cs e)
 
-  ask-passes : {A : Type 0} (r : Rule A) (a : A) → numbersPass test r ≡ true → Passes test (ask r a)
+  pub ask-passes : {A : Type 0} (r : Rule A) (a : A) → numbersPass test r ≡ true → Passes test (ask r a)
   unfolding ask
   ask-passes (gives n f t) a e = given-passes n f (t a) e
   ask-passes (fieldByField xs of) a e = fields-pass 1 xs (of a .name) (of a .rows) (of a .cells) e

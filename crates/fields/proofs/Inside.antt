@@ -72,13 +72,16 @@ stand line =
       past = λ i _. nothing mostFields i;
     }))
 
+pub places-inside : (line : Text) (i : ℕ) → getD (placesOf line .starts) i 0 + getD (placesOf line .lens) i 0 ≤ length line
+places-inside line = stand line .within
+
 take-inside : (n start len : ℕ) (s : Text) → start + n ≤ len → take n (drop start (take len s)) ≡ take n (drop start s)
 take-inside n zero len s h = take-take n len s (omega arith)
 take-inside n (suc start) zero s h = absurd (omega arith)
 take-inside n (suc start) (suc len) [] h = refl
 take-inside n (suc start) (suc len) (b ∷ s) h = take-inside n start len s (omega arith)
 
-part-length : (s : Text) (at len : ℕ) → length (partOf s at len) ≤ len
+pub part-length : (s : Text) (at len : ℕ) → length (partOf s at len) ≤ len
 unfolding partOf
 part-length s at len = omega (arith, length-take len (drop at s))
 

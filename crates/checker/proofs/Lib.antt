@@ -1,0 +1,11 @@
+pub mod Scan
+pub mod Sums
+pub mod Looks
+pub mod Next
+pub mod Outcome
+pub mod Reading
+pub mod Table
+pub mod Held
+pub mod Bytewise
+pub mod Lookups
+pub mod Contents

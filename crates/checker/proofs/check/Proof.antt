@@ -1,0 +1,89 @@
+use Prim.Native.Nat.{_-_}
+use borrow.Author.Needs.{needs}
+use Rattle.checker.proofs.Reading.{shallow}
+use Rattle.checker.proofs.Held.{Held, held-start, answered, table-left, entry-fits, fewer, held-next}
+use Rattle.checker.proofs.check.Statement.{statement}
+use Rattle.checker.proofs.check.Tie as tie
+
+abbrev Inv-loop : tie.InvT-loop
+Inv-loop file table₀ room names rows pf pj st₀ table st = Held file table₀ room table st
+
+abbrev μ-loop : tie.MeasureT-loop
+μ-loop file table₀ room names rows pf pj st₀ table st = 65537 - st .count
+
+name-table-requires : tie.Need-name-table-requires Inv-loop μ-loop
+name-table-requires c κs = search needs
+
+row-table-requires : tie.Need-row-table-requires Inv-loop μ-loop
+row-table-requires c κs = search needs
+
+pf-table-requires : tie.Need-pf-table-requires Inv-loop μ-loop
+pf-table-requires c κs = search needs
+
+pj-table-requires : tie.Need-pj-table-requires Inv-loop μ-loop
+pj-table-requires c κs = search needs
+
+start-requires : tie.Need-start-requires Inv-loop μ-loop
+start-requires c κs = search needs
+
+loop-holds : tie.Need-loop-holds Inv-loop μ-loop
+loop-holds c = held-start _ _ _ (c .start .ensures)
+
+turn-requires : tie.Need-turn-requires Inv-loop μ-loop
+turn-requires c κs =
+    let l = c .before .before .before .before .loop in (
+      record {
+        names-is = c .before .before .before .before .before .before .before .before .before .name-table .ensures;
+        rows-is = c .before .before .before .before .before .before .before .before .row-table .ensures;
+        pf-is = c .before .before .before .before .before .before .before .pf-table .ensures;
+        pj-is = c .before .before .before .before .before .before .pj-table .ensures;
+      },
+      (l .inv .between .reading .few, shallow (l .inv .between .reading)),
+    )
+
+same-length : tie.Need-same-length Inv-loop μ-loop
+same-length c = search needs
+
+returns : tie.Need-returns Inv-loop μ-loop
+returns c =
+    let l = c .before .before .before .before .before .before .before .loop in
+    let u = c .before .before .turn in
+    let stops = c .before .if1 .taken in
+    (answered (u .result) (l .inv .between) (u .ensures) stops, table-left (u .result) (l .inv) (u .ensures) stops)
+
+put-entry-requires : tie.Need-put-entry-requires Inv-loop μ-loop
+put-entry-requires c κs =
+    let l = c .before .before .before .before .before .before .before .loop in
+    let u = c .before .before .turn in
+    entry-fits (u .result) (l .inv) (u .ensures) (c .before .if1 .left)
+
+loop-less : tie.Need-loop-less Inv-loop μ-loop
+loop-less c =
+    let l = c .before .before .before .before .before .before .before .before .before .before .before .loop in
+    let u = c .before .before .before .before .before .before .turn in
+    fewer (u .result) (l .inv .between) (u .ensures) (c .before .before .before .before .before .if1 .left)
+
+loop-again : tie.Need-loop-again Inv-loop μ-loop
+loop-again c =
+    let l = c .before .before .before .before .before .before .before .before .before .before .before .loop in
+    let u = c .before .before .before .before .before .before .turn in
+    rw (c .before .before .before .put-entry .ensures) (held-next (u .result) (l .inv) (u .ensures) (c .before .before .before .before .before .if1 .left))
+
+pub check-spec : {M : Type 1} → statement M
+check-spec =
+    tie.close
+    (tie.spec
+    Inv-loop
+    μ-loop
+    name-table-requires
+    row-table-requires
+    pf-table-requires
+    pj-table-requires
+    start-requires
+    loop-holds
+    turn-requires
+    same-length
+    returns
+    put-entry-requires
+    loop-less
+    loop-again)

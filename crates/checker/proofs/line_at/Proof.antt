@@ -1,0 +1,26 @@
+use mathlib.Core.Path.{_∙_}
+use borrow.Author.Needs.{needs}
+use Rattle.checker.proofs.Bytewise.{too-long, within}
+use Rattle.checker.proofs.line_at.Statement.{statement}
+use Rattle.checker.proofs.line_at.Tie as tie
+
+clean-len-requires : tie.Need-clean-len-requires
+clean-len-requires c κs = search needs
+
+returns : tie.Need-returns
+returns c = too-long (c .before .before .before .args .s .now) (c .before .clean-len .ensures) (c .if1 .taken)
+
+tail-requires : tie.Need-tail-requires
+tail-requires c κs = search needs
+
+end-of-requires : tie.Need-end-of-requires
+end-of-requires c κs = search needs
+
+returns-2 : tie.Need-returns-2
+returns-2 c =
+    c .end-of .ensures
+    ∙ within (c .before .before .before .before .before .args .s .now) (c .before .before .before .clean-len .ensures) _ (c .before .before .if1 .left) (c .before .tail .ensures)
+
+pub line-at-spec : {M : Type 1} → statement M
+line-at-spec =
+    tie.close (tie.spec clean-len-requires returns tail-requires end-of-requires returns-2)

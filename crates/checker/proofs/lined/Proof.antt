@@ -1,0 +1,45 @@
+use Rattle.checker.proofs.Lookups.{line-fits}
+use borrow.Author.Tests.{eq-eqb, ne-eqb}
+use Rattle.checker.specs.Turn.{lineStep}
+use borrow.Author.Needs.{needs}
+use Rattle.checker.proofs.lined.Statement.{statement}
+use Rattle.checker.proofs.lined.Tie as tie
+
+tail-requires : tie.Need-tail-requires
+tail-requires c κs = search needs
+
+line-at-requires : tie.Need-line-at-requires
+line-at-requires c κs = search needs
+
+recorded-requires : tie.Need-recorded-requires
+recorded-requires c κs =
+    let p = c .before .before .before .before .before .pre in
+    (p .0, record { few = p .1 .0; inside = line-fits _ _ (c .before .before .before .tail .ensures) (c .before .before .line-at .ensures) (c .if1 .taken); shallow = p .1 .1 })
+
+returns : tie.Need-returns
+unfolding lineStep
+returns c =
+    simp (
+      c .recorded .ensures,
+      eq-eqb _ _ (c .before .if1 .taken),
+      ← c .before .before .before .line-at .ensures,
+      ← c .before .before .before .before .tail .ensures,
+    )
+
+refuse-requires : tie.Need-refuse-requires
+refuse-requires c κs = search needs
+
+returns-2 : tie.Need-returns-2
+unfolding lineStep
+returns-2 c =
+    simp (
+      c .refuse .ensures,
+      ne-eqb _ _ (c .before .if1 .left),
+      ← c .before .before .before .line-at .ensures,
+      ← c .before .before .before .before .tail .ensures,
+    )
+
+pub lined-spec : {M : Type 1} → statement M
+lined-spec =
+    tie.close
+    (tie.spec tail-requires line-at-requires recorded-requires returns refuse-requires returns-2)

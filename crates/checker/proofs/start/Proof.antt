@@ -1,0 +1,11 @@
+use mathlib.Core.Path.{refl}
+use Rattle.checker.specs.State.{startState}
+use Rattle.checker.proofs.start.Statement.{statement}
+use Rattle.checker.proofs.start.Tie as tie
+
+returns : tie.Need-returns
+unfolding startState
+returns c = refl
+
+pub start-spec : {M : Type 1} → statement M
+start-spec = tie.close (tie.spec returns)

@@ -1,0 +1,9 @@
+pub mod Every
+pub mod Arms
+pub mod Values
+pub mod Letters
+pub mod FieldOrder
+pub mod Readings
+pub mod Findings
+pub mod Laws
+pub mod Marked

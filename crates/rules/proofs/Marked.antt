@@ -1,0 +1,56 @@
+-- M9 to M12 of document 01: whatever the contracts allow as a result there is the marked answer.
+use Prim.Native.Nat.{ℕ}
+use mathlib.Core.Path.{_≡_, refl, ap, _∙_}
+use mathlib.Core.List.{List, [], _∷_}
+use denote.Ref.{now}
+use Rattle.dirf.specs.Bytes.{Text, bytes, bytes-opens}
+use Rattle.dirf.specs.Numbers.{numbers-opens}
+use Rattle.dirf.specs.Fields.{fieldOrder, fields-opens}
+use Rattle.dirf.specs.Rules.{askField, rules-opens}
+use Rattle.dirf.specs.Amounts.{readAmount, amounts-opens}
+use Rattle.dirf.specs.Theorems.Plain.{_∈_}
+use Rattle.dirf.proofs.Lists.{Each, none, _also_, of-each}
+use Rattle.layout.specs.declared.Row.{Row}
+use Rattle.layout.specs.Tables.{formatOf, fillOf, needOf, holdsOf, rowOf}
+use Rattle.layout.specs.Codes.{rowSaid}
+use Rattle.rules.specs.declared.AmountRead.{AmountRead}
+use Rattle.rules.specs.declared.AmountRead.the-variants.{Value, Refused}
+use Rattle.rules.specs.Findings.{numberOf, amountAnswer}
+use Rattle.rules.proofs.read_amount.Reads as read-amount
+use Rattle.rules.proofs.field_rule.Reads as field-rule
+
+-- M9 and M10: a field, and what the amount reader answers
+abbrev pub amounts : List (Text × AmountRead)
+amounts =
+    (bytes "0", Refused 16) ∷
+    (bytes "1", Value (record { 0 = 1 })) ∷
+    (bytes "9999999999999", Value (record { 0 = 9999999999999 })) ∷
+    (bytes "99999999999999", Refused 15) ∷
+    []
+
+answers : Each (λ (x : Text × AmountRead). amountAnswer (readAmount (x .0)) ≡ x .1) amounts
+unfolding bytes-opens numbers-opens fields-opens rules-opens amounts-opens amountAnswer
+answers = refl also refl also refl also refl also none
+
+pub amounts-marked : (κs : _) (a : _) (r : _) (s : _) → read-amount.Post κs a r s → (x : Text × AmountRead) → x ∈ amounts → now (a .0) ≡ x .0 → r ≡ x .1
+amounts-marked κs a r s e x m f = e ∙ ap (λ t. amountAnswer (readAmount t)) f ∙ of-each answers x m
+
+-- M11 and M12: a row, a field and the number given: field 9 of DECPF, a date, and field 4 of RESPO, an area code
+abbrev pub dateRow : Row
+dateRow = record { format = 68; fill = 70; size = 8; need = 78; holds = 46 }
+
+abbrev pub dddRow : Row
+dddRow = record { format = 78; fill = 70; size = 2; need = 83; holds = 100 }
+
+abbrev pub numbers : List ((Row × Text) × ℕ)
+numbers = ((dateRow, bytes "20240229"), 0) ∷ ((dateRow, bytes "20230229"), 17) ∷ ((dddRow, bytes "01"), 16) ∷ []
+
+given : (name : Text) → Each (λ (x : (Row × Text) × ℕ). numberOf (askField 0 fieldOrder name (rowSaid (x .0 .0)) (x .0 .1)) ≡ x .1) numbers
+unfolding bytes-opens numbers-opens fields-opens rules-opens formatOf fillOf needOf holdsOf rowOf rowSaid numberOf
+given name = refl also refl also refl also none
+
+pub numbers-marked : (κs : _) (a : _) (r : _) (s : _) → field-rule.Post κs a r s → (x : (Row × Text) × ℕ) → x ∈ numbers
+    → a .1 .1 .0 ≡ x .0 .0 → now (a .1 .0) ≡ x .0 .1 → r ≡ x .1
+numbers-marked κs a r s e x m f g =
+    e ∙ ap (λ y. numberOf (askField 0 fieldOrder (now (a .0)) (rowSaid y) (now (a .1 .0)))) f
+    ∙ ap (λ t. numberOf (askField 0 fieldOrder (now (a .0)) (rowSaid (x .0 .0)) t)) g ∙ of-each (given (now (a .0))) x m

@@ -1,0 +1,89 @@
+use Prim.Native.Nat.{ℕ, _+_, _-_, _≤_, _<_}
+use mathlib.Core.Path.{_≡_, refl, sym, ap, _∙_}
+use mathlib.Core.List.{List, []}
+use native.Mathlib.Omega.{arith}
+use borrow.Author.Needs.{needs}
+use lib.ListN.{length, getD, drop, drop-of-length-le}
+use Rattle.dirf.specs.Bytes.{Text}
+use Rattle.dirf.specs.Fields.{fieldOrder}
+use Rattle.dirf.specs.Rules.{Found, keeps, orElse, askField, askFields}
+use Rattle.layout.specs.Tables.{countIn, rowsIn}
+use Rattle.layout.specs.Codes.{rowCodes, rowSaid}
+use Rattle.layout.proofs.Laws.{rows-length}
+use Rattle.fields.specs.Places.{cellsAt}
+use Rattle.fields.proofs.PlaceLaws.{cells-length}
+use Rattle.rules.specs.Findings.{numberOf, findingOf, contentsFound}
+use Rattle.rules.proofs.Findings.{fields-end, count-most, field-breaks, field-keeps}
+use Rattle.rules.proofs.contents_found.Statement.{statement}
+use Rattle.rules.proofs.contents_found.Tie as tie
+
+abbrev Inv-loop : tie.InvT-loop
+Inv-loop bytes p name rows k n i₀ i =
+    (i ≤ n) × (askFields 1 fieldOrder name (rowsIn rows k) (cellsAt bytes p) ≡ askFields (i + 1) fieldOrder name (drop i (rowsIn rows k)) (drop i (cellsAt bytes p)))
+
+abbrev μ-loop : tie.MeasureT-loop
+μ-loop bytes p name rows k n i₀ i = n - i
+
+abbrev start : tie.At-loop Inv-loop μ-loop → tie.Start Inv-loop μ-loop
+start l = l .before .before .before .before
+
+abbrev rows : tie.At-loop Inv-loop μ-loop → List ℕ
+rows l = start l .args .rows .now
+
+abbrev name : tie.At-loop Inv-loop μ-loop → Text
+name l = start l .args .name .now
+
+abbrev cells : tie.At-loop Inv-loop μ-loop → List Text
+cells l = cellsAt (start l .args .bytes .now) (start l .args .p)
+
+-- the number that is asked of a field is that of its row and its cell
+asked : (c : tie.After-field-rule Inv-loop μ-loop) → let l = c .before .before .before .before .before .before in
+    c .field-rule .result ≡ numberOf (askField 0 fieldOrder (name l) (rowSaid (rowCodes (rows l) (start l .args .k) (l .loop .i))) (getD (cells l) (l .loop .i) []))
+asked c = c .field-rule .ensures ∙ rw (c .before .row-at .ensures, c .before .before .cell .ensures)
+
+-- no record has more than fifteen rows, as there are places for no more cells
+few : (l : tie.At-loop Inv-loop μ-loop) → l .before .field-count .result ≤ 15
+few l = rw (l .before .field-count .ensures) (count-most (rows l) (start l .args .k))
+
+-- field i has a row and a cell
+there : (c : tie.After-field-rule Inv-loop μ-loop) → let l = c .before .before .before .before .before .before in
+    (l .loop .i < countIn (rows l) (start l .args .k)) × (l .loop .i < length (cells l))
+there c =
+    let l = c .before .before .before .before .before .before in
+    (omega (arith, l .before .field-count .ensures), omega (arith, few l, cells-length (start l .args .bytes .now) (start l .args .p)))
+
+pub contents-found-spec : {M : Type 1} → statement M
+unfolding orElse askFields findingOf contentsFound
+contents-found-spec =
+    tie.close
+    (tie.spec
+    Inv-loop
+    μ-loop
+    (λ c κs. search needs)
+    (λ c. (omega arith, refl))
+    (λ c κs. search needs)
+    (λ c.
+    let l = c .before .before .before .before in
+    let h : length (cells l) ≤ l .loop .i = omega (arith, few l, cells-length (start l .args .bytes .now) (start l .args .p)) in
+    rw (l .loop .inv .1 ∙ fields-end fieldOrder (name l) (rowsIn (rows l) (start l .args .k)) (cells l) (l .loop .i) h) (c .conditions-found .ensures))
+    (λ c κs. search needs)
+    (λ c κs. search needs)
+    (λ c κs. search needs)
+    (λ c. omega (arith, few (c .before .before .before .before .before .before .before)))
+    (λ c. omega (arith, few (c .before .before .before .before .before .before .before)))
+    (λ c.
+    let l = c .before .before .before .before .before .before .before in
+    let h = there (c .before) in
+    rw (l .loop .inv .1 ∙ field-breaks (rows l) (start l .args .k) (name l) (cells l) (l .loop .i) (h .0) (h .1) (asked (c .before)) (c .if2 .taken)))
+    (λ c. omega arith)
+    (λ c. omega arith)
+    (λ c.
+    let l = c .before .before .before .before .before .before .before in
+    let h = there (c .before) in
+    (omega arith, l .loop .inv .1 ∙ field-keeps (rows l) (start l .args .k) (name l) (cells l) (l .loop .i) (h .0) (h .1) (asked (c .before)) (c .if2 .left)))
+    (λ c κs. search needs)
+    (λ c.
+    let l = c .before .before in
+    let e = rows-length (rows l) (start l .args .k) ∙ sym (l .before .field-count .ensures) in
+    let h : length (rowsIn (rows l) (start l .args .k)) ≤ l .loop .i = omega (arith, e) in
+    rw (l .loop .inv .1, drop-of-length-le (rowsIn (rows l) (start l .args .k)) h) (c .conditions-found2 .ensures)))

@@ -1,0 +1,81 @@
+-- What is found in a record's fields, as the code answers it.
+use Prim.Native.Nat.{ℕ, _≤_}
+use mathlib.Core.Path.{_≡_}
+use mathlib.Core.Bool.{Bool, true, _&&_, not}
+use mathlib.Core.List.{List, [], _∷_}
+use lib.Dec.{eqb}
+use lib.ListN.{length}
+use Rattle.dirf.specs.Bytes.{if_then_else_, Text, bytes, every, isIn, same, lookup}
+use Rattle.dirf.specs.Kinds.{DECPF}
+use Rattle.dirf.specs.Lines.{field}
+use Rattle.dirf.specs.Row.{Row as FieldRow}
+use Rattle.dirf.specs.Fields.{rightByte, fieldOrder}
+use Rattle.dirf.specs.Conditions.{conditionOrder}
+use Rattle.dirf.specs.Rules.{Found, keeps, breaks, orElse, askFields, askConditions}
+use Rattle.dirf.specs.Amounts.{Reading}
+use Rattle.layout.specs.Tables.{formatOf}
+use Rattle.layout.specs.declared.Row.{Row}
+use Rattle.rules.specs.declared.Finding.{Finding}
+use Rattle.rules.specs.declared.NumberRead.{NumberRead}
+use Rattle.rules.specs.declared.AmountRead.{AmountRead}
+use Rattle.rules.specs.declared.AmountRead.the-variants as amount
+use Rattle.rules.specs.declared.MonthRead.{MonthRead}
+use Rattle.rules.specs.declared.MonthRead.the-variants as month
+
+-- 0 where a rule is kept
+unfoldable pub numberOf : Found → ℕ
+numberOf keeps = 0
+numberOf (breaks number field) = number
+
+unfoldable pub fieldOf : Found → ℕ
+fieldOf keeps = 0
+fieldOf (breaks number field) = field
+
+unfoldable pub findingOf : Found → Finding
+findingOf keeps = record { number = 0; field = 0 }
+findingOf (breaks number field) = record { number = number; field = field }
+
+-- 13 to 18 field by field, then 19: of a kind, its identifier, its rows and the fields' contents
+unfoldable pub contentsFound : ℕ → Text → List FieldRow → List Text → Found
+contentsFound k name rows cells = orElse (askFields 1 fieldOrder name rows cells) (askConditions 19 conditionOrder k cells)
+
+-- the only byte of a text, 0 where it has none or more
+unfoldable pub onlyByte : Text → ℕ
+onlyByte [] = 0
+onlyByte (b ∷ []) = b
+onlyByte (b ∷ c ∷ s) = 0
+
+-- what `valid` asks where the printed values are of one byte each, and where none are printed
+unfoldable pub letterOf : ℕ → Text → Bool
+letterOf h s =
+    lookup true
+    ((115, isIn (onlyByte s) (83 ∷ 78 ∷ [])) ∷
+    (49, isIn (onlyByte s) (48 ∷ 49 ∷ [])) ∷
+    (50, isIn (onlyByte s) (49 ∷ 50 ∷ [])) ∷
+    (51, isIn (onlyByte s) (49 ∷ 50 ∷ 51 ∷ [])) ∷
+    (56, isIn (onlyByte s) (48 ∷ 49 ∷ 50 ∷ 51 ∷ 52 ∷ 56 ∷ [])) ∷
+    [])
+    h
+
+-- a field that is filled, and whose bytes are of the right kind
+pub record FilledRight (s : Text) (r : Row) : Type 0 where
+  pub filled : 1 ≤ length s
+  pub bytes : every (rightByte (formatOf (r .format))) s ≡ true
+
+unfoldable pub numberRead : Reading → NumberRead
+numberRead r = record { number = r .number; value = r .value }
+
+-- 01, "The amount reader": a reading as the answer of the amount reader, and of the month reader
+unfoldable pub amountAnswer : Reading → AmountRead
+amountAnswer r = if eqb (r .number) 0 then amount.Value (record { 0 = r .value }) else amount.Refused (r .number)
+
+unfoldable pub monthAnswer : Reading → MonthRead
+monthAnswer r = if eqb (r .number) 0 then month.Value (record { 0 = r .value }) else month.Refused (r .number)
+
+-- the field that the first broken condition of DECPF names, 0 where none is broken
+unfoldable pub conditionField : List Text → ℕ
+conditionField cells = fieldOf (askConditions 19 conditionOrder DECPF cells)
+
+-- of a declaration of special situation: field 10 is 1, and 11 is not S
+unfoldable pub deathUnstated : List Text → Bool
+deathUnstated cells = same (field 10 cells) (bytes "1") && not (same (field 11 cells) (bytes "S"))
