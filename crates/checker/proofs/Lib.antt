@@ -9,3 +9,5 @@ pub mod Held
 pub mod Bytewise
 pub mod Lookups
 pub mod Contents
+pub mod Determined
+pub mod Written

@@ -11,6 +11,7 @@ use Rattle.fields.proofs.place_of.Reads as place-of
 use Rattle.fields.proofs.field.Reads as field
 use Rattle.fields.proofs.field_there.Reads as field-there
 use Rattle.fields.proofs.places_of.Reads as places-of
+use Rattle.fields.proofs.places_along.Reads as places-along
 
 -- what a contract ensures is asked of lifetimes, arguments, a result and the parameters at exit
 module _ {K : Type 0} {A X S : K → Type 0} (ensures : (κs : K) → A κs → X κs → S κs → Type 0) where
@@ -22,6 +23,15 @@ module _ {K X : Type 0} {A S : K → Type 0} (ensures : (κs : K) → A κs → 
   abbrev pub OnePlace : Type 0
   OnePlace =
       (κs : K) (a : A κs) (x y : RefT X) (s t : S κs) → ensures κs a x s → ensures κs a y t → (now x ≡ now y) × (ptr x ≡ ptr y)
+
+-- where something is lent to be changed, what it holds at exit too
+module _ {K Y : Type 0} {A X S : K → Type 0} (ensures : (κs : K) → A κs → X κs → S κs → Type 0) (output : (κs : K) → S κs → Y) where
+  abbrev pub OneWith : Type 0
+  OneWith =
+      (κs : K) (a : A κs) (x y : X κs) (s t : S κs) → ensures κs a x s → ensures κs a y t → (x ≡ y) × (output κs s ≡ output κs t)
+
+pub both-one : {X Y : Type 0} {x y a : X} {s t b : Y} → (x ≡ a) × (s ≡ b) → (y ≡ a) × (t ≡ b) → (x ≡ y) × (s ≡ t)
+both-one p q = (p .0 ∙ sym (q .0), p .1 ∙ sym (q .1))
 
 by-parts : {X : Type 0} (x y : RefT X) {l : X} {b o : ℕ} → (now x ≡ l) × ((ptr x .0 ≡ b) × (ptr x .1 ≡ o))
     → (now y ≡ l) × ((ptr y .0 ≡ b) × (ptr y .1 ≡ o)) → (now x ≡ now y) × (ptr x ≡ ptr y)
@@ -54,3 +64,6 @@ field-there-one κs a x y s t p q = p ∙ sym q
 
 pub places-of-one : One places-of.Post
 places-of-one κs a x y s t p q = p ∙ sym q
+
+pub places-along-one : One places-along.Post
+places-along-one κs a x y s t p q = p ∙ sym q

@@ -1,19 +1,19 @@
 -- Every place of a line's fields stands inside the line; so what stands there in a file is the same as in the line.
-use Prim.Native.Nat.{ℕ, zero, suc, _+_, _-_, _≤_, _<_, min}
+use Prim.Native.Nat.{ℕ, zero, suc, _+_, _-_, _≤_}
 use mathlib.Core.Path.{_≡_, refl, sym, ap, _∙_, subst}
 use mathlib.Core.Bool.{Bool, true, false}
-use mathlib.Core.List.{List, [], _∷_}
+use mathlib.Core.List.{[], _∷_}
 use native.Mathlib.Nat.{zero-add}
 use native.Mathlib.Omega.{arith}
 use lib.Dec.{eqb, ltb}
 use lib.ListN.{length, getD, take, drop, set, replicate, length-take, List·getD-eq-default}
 use lib.Seq.{getD-set-same, getD-set-other, drop-drop, set-out, take-take}
 use borrow.Author.Tests.{eqb-true, eqb-false, ltb-true, ltb-false}
-use Rattle.dirf.specs.Bytes.{if_then_else_, Text}
+use Rattle.dirf.specs.Bytes.{Text}
 use Rattle.dirf.specs.Limits.{bar}
 use Rattle.dirf.specs.Lines.{fields, field}
 use Rattle.dirf.proofs.Bools.{if-cases}
-use Rattle.fields.specs.Places.{partOf, mostFields, noPlaces, addPlace, placesFrom, placesOf, cellAt, cellsAt}
+use Rattle.fields.specs.Places.{partOf, mostFields, noPlaces, addPlace, placesFrom, placesOf, cellAt}
 use Rattle.fields.specs.declared.Places.{Places}
 use Rattle.fields.proofs.PlaceLaws.{Fifteen, fifteen-more, places-count, places-cells, cell-at}
 

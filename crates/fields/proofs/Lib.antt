@@ -7,3 +7,4 @@ pub mod Keys
 pub mod PlaceLaws
 pub mod Determined
 pub mod Inside
+pub mod Along

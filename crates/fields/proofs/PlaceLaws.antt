@@ -80,7 +80,7 @@ module _ (line : Text) (p : Places) (a b : ℕ) where
   unfolding addPlace
   fifteen-more f = record { starts = rw length-set (f .starts); lens = rw length-set (f .lens) }
 
-  cells-more : Fifteen p → p .count < mostFields → cellsAt line (addPlace p a b) ≡ cellsAt line p ++ (partOf line a b ∷ [])
+  pub cells-more : Fifteen p → p .count < mostFields → cellsAt line (addPlace p a b) ≡ cellsAt line p ++ (partOf line a b ∷ [])
   unfolding cellsAt cellAt addPlace
   cells-more f h =
       let n : min mostFields (p .count + 1) ≡ suc (p .count) = omega arith in

@@ -42,6 +42,14 @@ placesFrom (b ∷ s) start at p =
 unfoldable pub placesOf : Text → Places
 placesOf line = placesFrom line 0 0 noPlaces
 
+-- fields one after another from `at` on, of these lengths; no start is past the last 64-bit number
+unfoldable pub alongFrom : List ℕ → ℕ → Places → Places
+alongFrom [] at p = p
+alongFrom (n ∷ ns) at p = alongFrom ns (min (at + n) 18446744073709551615) (addPlace p at n)
+
+unfoldable pub placesAlong : List ℕ → Places
+placesAlong ns = alongFrom ns 0 noPlaces
+
 -- what stands at the places, field by field: cell i, from 0
 unfoldable pub cellAt : Text → Places → ℕ → Text
 cellAt s p i = partOf s (getD (p .starts) i 0) (getD (p .lens) i 0)

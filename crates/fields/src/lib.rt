@@ -7,7 +7,7 @@ ghost use denote.Ref.{ptr};
 ghost use Rattle.dirf.specs.Bytes.{same as sameText, less as lessText};
 ghost use Rattle.dirf.specs.FieldReader.{fieldThere, fieldOf, fieldStart};
 ghost use Rattle.dirf.specs.Keys.{keyFields, keyLess};
-ghost use Rattle.fields.specs.Places.{partOf, placeOf, addPlace, placesOf, keyParts, barIn};
+ghost use Rattle.fields.specs.Places.{partOf, placeOf, addPlace, placesOf, placesAlong, keyParts, barIn};
 
 // Where a field stands in its line.
 pub struct Place {
@@ -214,4 +214,34 @@ pub fn places_of(line: &[u8]) -> Places
         i += 1;
     }
     p
+}
+
+// The places of fields that stand one after another, of these lengths; a start past any integer is the last integer.
+pub fn places_along(lengths: &[usize]) -> Places
+    ensures { λ r. ⌜ r ≡ placesAlong (now (lengths .entry)) ⌝ }
+{
+    let mut p = Places {
+        count: 0,
+        starts: [0; 15],
+        lens: [0; 15],
+    };
+    let mut at = 0;
+    let mut i = 0;
+    while i < lengths.len() {
+        let n = lengths[i];
+        p = add_place(p, at, n);
+        at = capped(at, n);
+        i += 1;
+    }
+    p
+}
+
+// The sum of two numbers, the last integer where it is none.
+fn capped(a: usize, b: usize) -> usize
+    ensures { λ r. ⌜ r ≡ min (a + b) 18446744073709551615 ⌝ }
+{
+    if 18446744073709551615 - a < b {
+        return 18446744073709551615;
+    }
+    a + b
 }

@@ -1,12 +1,12 @@
 -- A number past the kinds is none that a table names: one computed test over the table's own numbers.
 use Prim.Native.Nat.{ℕ, _≤_, _<_}
 use mathlib.Core.Path.{_≡_, refl}
-use mathlib.Core.Bool.{Bool, true, false, _&&_}
+use mathlib.Core.Bool.{Bool, true, false}
 use mathlib.Core.List.{List, [], _∷_}
 use native.Mathlib.Omega.{arith}
 use lib.Dec.{eqb, ltb}
 use borrow.Author.Tests.{ltb-true, ltb-false, ne-eqb}
-use Rattle.dirf.specs.Bytes.{if_then_else_, every, some, isIn, lookup}
+use Rattle.dirf.specs.Bytes.{every, some, isIn, lookup}
 use Rattle.dirf.specs.Row.{Row}
 use Rattle.dirf.specs.Edition as edition
 use Rattle.dirf.proofs.Bools.{and-left, and-right}

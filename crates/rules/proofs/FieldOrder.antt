@@ -1,6 +1,6 @@
 -- 13 to 18 of one field, in the order in which the code asks them.
 use Prim.Native.Nat.{ℕ, _≤_}
-use mathlib.Core.Path.{_≡_, refl, sym}
+use mathlib.Core.Path.{_≡_, refl}
 use mathlib.Core.Bool.{Bool, true, false, _&&_, not, and-true, and-false}
 use mathlib.Core.List.{[], _∷_}
 use native.Mathlib.Omega.{arith}
@@ -11,8 +11,8 @@ use borrow.Author.Tests.{not-false}
 use Rattle.dirf.specs.Bytes.{if_then_else_, Text, every, isDigit, isEmpty, beginsWith}
 use Rattle.dirf.specs.Row.{Row, N}
 use Rattle.dirf.specs.Numbers.{isDate}
-use Rattle.dirf.specs.Fields.{isObligatory, rightByte, fillsTo, sizeHeld, takesNoZero, dated, valid, filled, byteOfTheWrongKind, wrongSize}
-use Rattle.dirf.specs.Fields.{obligatoryFieldEmpty, zeroInFront, noSuchDate, notAValidValue, fieldOrder}
+use Rattle.dirf.specs.Fields.{isObligatory, rightByte, fillsTo, sizeHeld, takesNoZero, dated, valid, filled, fieldOrder}
+use Rattle.dirf.specs.Fields.{obligatoryFieldEmpty, byteOfTheWrongKind, wrongSize, zeroInFront, noSuchDate, notAValidValue}
 use Rattle.dirf.specs.Rules.{Found, keeps, given, orElse, askField}
 use Rattle.dirf.proofs.Lists.{listed}
 use Rattle.dirf.proofs.Asked.{field-kept, field-passes, nothing-found}
@@ -56,7 +56,8 @@ module _ (name : Text) (r : Row) where
   nothing s e = nothing-found numberOf (λ n f. refl) (askField 0 fieldOrder name r s) (field-passes (ltb 0) 0 fieldOrder name r s refl) e
 
 -- what is kept by a number of so many digits
-pub kept-digits : (r : Row) (s : Text) → r .format ≡ N → r .size ≤ 18 → askField 0 fieldOrder [] r s ≡ keeps → (every isDigit s ≡ true) × (length s ≤ 18)
+pub kept-digits : (r : Row) (s : Text) → r .format ≡ N → r .size ≤ 18 → askField 0 fieldOrder [] r s ≡ keeps
+    → (every isDigit s ≡ true) × (length s ≤ 18)
 unfolding byteOfTheWrongKind rightByte fieldOrder
 kept-digits r s n l k =
     let digits = not-false (every (rightByte (r .format)) s) (field-kept 0 [] r s 14 byteOfTheWrongKind (search listed) k) in

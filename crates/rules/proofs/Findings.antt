@@ -1,6 +1,6 @@
 -- What is found in a record's fields: what a finding is made of, field by field, and the conditions of DECPF.
 use Prim.Native.Nat.{ℕ, suc, _+_, _*_, _≤_, _<_}
-use mathlib.Core.Path.{_≡_, refl, sym, ap, _∙_}
+use mathlib.Core.Path.{_≡_, refl, sym, _∙_}
 use mathlib.Core.Bool.{Bool, true, false, _&&_, not, and-assoc}
 use mathlib.Core.List.{List, [], _∷_}
 use native.Mathlib.Omega.{arith}
@@ -10,12 +10,13 @@ use lib.Dec.{eqb, ltb}
 use lib.ListN.{length, getD, drop, drop-of-length-le}
 use lib.Seq.{drop-cons}
 use borrow.Author.Tests.{ne-eqb}
-use Rattle.dirf.specs.Bytes.{if_then_else_, Text, bytes, same, isEmpty}
+use Rattle.dirf.specs.Bytes.{if_then_else_, Text, isEmpty}
 use Rattle.dirf.specs.Kinds.{DECPF}
 use Rattle.dirf.specs.Row.{Row}
 use Rattle.dirf.specs.Lines.{field}
 use Rattle.dirf.specs.Fields.{FieldRule, fieldOrder}
-use Rattle.dirf.specs.Conditions.{conditionOrder, special, eventDateMissing, eventTypeMissing, deathNotStated, estateStated, conditions-opens}
+use Rattle.dirf.specs.Conditions.{special, eventDateMissing, eventTypeMissing, deathNotStated, estateStated}
+use Rattle.dirf.specs.Conditions.{conditionOrder, conditions-opens}
 use Rattle.dirf.specs.Rules.{Found, keeps, breaks, given, orElse, askField, askFields, askConditions}
 use Rattle.dirf.proofs.Bools.{if-cases}
 use Rattle.layout.specs.Tables.{countIn, rowsIn}

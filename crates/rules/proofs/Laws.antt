@@ -1,6 +1,6 @@
 -- What callers need of what is found in a record's fields.
 use Prim.Native.Nat.{ℕ}
-use mathlib.Core.Path.{_≡_, refl, sym, ap, subst}
+use mathlib.Core.Path.{_≡_, refl, ap, subst}
 use mathlib.Core.Logic.{_≢_}
 use mathlib.Core.List.{List, [], _∷_}
 use lib.Dec.{ltb}
@@ -8,7 +8,8 @@ use Rattle.dirf.specs.Bytes.{Text, every}
 use Rattle.dirf.specs.Row.{Row}
 use Rattle.dirf.specs.Fields.{fieldOrder}
 use Rattle.dirf.specs.Conditions.{conditionOrder}
-use Rattle.dirf.specs.Rules.{Found, keeps, breaks, orElse, Contents, Rule, fieldByField, conditions, askFields, askConditions, ask, first}
+use Rattle.dirf.specs.Rules.{Found, keeps, breaks, orElse, Contents, Rule, fieldByField, conditions}
+use Rattle.dirf.specs.Rules.{askFields, askConditions, ask, first}
 use Rattle.dirf.proofs.Asked.{Passes, first-passes, nothing-found}
 use Rattle.rules.specs.Findings.{findingOf, contentsFound}
 

@@ -13,8 +13,8 @@ use Rattle.dirf.proofs.Bools.{and-left, and-right}
 use Rattle.dirf.proofs.Says.{isIn-says}
 use Rattle.dirf.proofs.Lists.{none, _also_, of-each}
 use Rattle.layout.specs.Tables.{tab, holdsOf}
-use Rattle.rules.specs.Findings.{onlyByte, letterOf}
 use Rattle.layout.proofs.Arms.{NoneOf}
+use Rattle.rules.specs.Findings.{onlyByte, letterOf}
 use Rattle.rules.proofs.Arms.{none-in, within, between, seen}
 
 -- an arm of a `match` on the only byte, below the arm of the letter k
@@ -42,7 +42,7 @@ abbrev letters : List ℕ
 letters = 115 ∷ 49 ∷ 50 ∷ 51 ∷ 56 ∷ []
 
 -- the identifier, the two years and the layout's own code
-abbrev pub words : List (List ℕ)
+abbrev words : List (List ℕ)
 words = (114 ∷ []) ∷ (122 ∷ []) ∷ (121 ∷ []) ∷ (105 ∷ []) ∷ []
 
 apart : (h : ℕ) → isIn h letters ≡ false → NoneOf words h → some (isIn h) (letters ∷ words) ≡ false
@@ -58,8 +58,10 @@ letter-valid name s h b n = go (isIn h letters) refl
 
     go : (t : Bool) → isIn h letters ≡ t → letterOf h s ≡ valid name (holdsOf h) s
     go true e =
-        of-each {P = λ k. letterOf k s ≡ valid name (holdsOf k) s} (one-of s (83 ∷ 78 ∷ []) refl also one-of s (48 ∷ 49 ∷ []) refl also one-of s (49 ∷ 50 ∷ []) refl also
-        one-of s (49 ∷ 50 ∷ 51 ∷ []) refl also one-of s (48 ∷ 49 ∷ 50 ∷ 51 ∷ 52 ∷ 56 ∷ []) refl also none) h (isIn-says h letters .0 e)
+        of-each {P = λ k. letterOf k s ≡ valid name (holdsOf k) s}
+        (one-of s (83 ∷ 78 ∷ []) refl also one-of s (48 ∷ 49 ∷ []) refl also one-of s (49 ∷ 50 ∷ []) refl also
+        one-of s (49 ∷ 50 ∷ 51 ∷ []) refl also one-of s (48 ∷ 49 ∷ 50 ∷ 51 ∷ 52 ∷ 56 ∷ []) refl also none)
+        h (isIn-says h letters .0 e)
     go false e =
         let p = within asked (true, true) (letters ∷ words) 0 256 refl zero≤ b (apart h e n) in
         sym (ap (λ x. x .0) p) ∙ ap (λ x. x .1) p

@@ -32,7 +32,8 @@ answers : Each (λ (x : Text × AmountRead). amountAnswer (readAmount (x .0)) �
 unfolding bytes-opens numbers-opens fields-opens rules-opens amounts-opens amountAnswer
 answers = refl also refl also refl also refl also none
 
-pub amounts-marked : (κs : _) (a : _) (r : _) (s : _) → read-amount.Post κs a r s → (x : Text × AmountRead) → x ∈ amounts → now (a .0) ≡ x .0 → r ≡ x .1
+pub amounts-marked : (κs : _) (a : _) (r : _) (s : _) → read-amount.Post κs a r s → (x : Text × AmountRead) → x ∈ amounts
+    → now (a .0) ≡ x .0 → r ≡ x .1
 amounts-marked κs a r s e x m f = e ∙ ap (λ t. amountAnswer (readAmount t)) f ∙ of-each answers x m
 
 -- M11 and M12: a row, a field and the number given: field 9 of DECPF, a date, and field 4 of RESPO, an area code

@@ -7,12 +7,12 @@ ghost use mathlib.Core.List.{[], _∷_};
 ghost use Prim.Native.Nat.{_≤_, _^_, min};
 ghost use lib.ListN.{length, getD};
 ghost use Rattle.dirf.specs.Bytes.{every, isDigit, beginsWith, same, isEmpty};
-ghost use Rattle.dirf.specs.Row.{C, N, variable};
+ghost use Rattle.dirf.specs.Row.{N, variable};
 ghost use Rattle.dirf.specs.Numbers.{valueOf, isLeap, daysIn, isDay, isDate};
 ghost use Rattle.dirf.specs.Fields.{rightByte, fillsTo, sizeHeld, takesNoZero, dated, valid, fieldOrder};
 ghost use Rattle.dirf.specs.Conditions.{conditionOrder};
 ghost use Rattle.dirf.specs.Rules.{askField, askConditions};
-ghost use Rattle.dirf.specs.Amounts.{Reading, readNumber, readAmount, readMonths};
+ghost use Rattle.dirf.specs.Amounts.{readNumber, readAmount, readMonths};
 ghost use Rattle.fields.specs.Places.{cellsAt};
 ghost use Rattle.layout.specs.Tables.{formatOf, fillOf, holdsOf, rowsIn};
 ghost use Rattle.layout.specs.Codes.{rowSaid};
@@ -132,7 +132,7 @@ fn takes_no_zero(holds: u8) -> bool
     }
 }
 
-// The value of digits, however many: all that have more than eighteen digits are one.
+// The value of digits, however many: from 10^18 on it is 10^18, so that it fits.
 fn capped(s: &[u8]) -> u64
     requires { ⌜ every isDigit (now s) ≡ true ⌝ }
     ensures { λ r. ⌜ r ≡ min (10 ^ 18) (valueOf (now (s .entry))) ⌝ }
@@ -196,7 +196,7 @@ fn is_day(y: u64, m: u64, d: u64) -> bool
     d <= days_in(y, m)
 }
 
-// Digits of any number: a row may have any size.
+// Year, month and day, of however many digits: a row may have any size.
 fn is_date(s: &[u8]) -> bool
     requires { ⌜ every isDigit (now s) ≡ true ⌝ }
     ensures { λ r. ⌜ r ≡ isDate (now (s .entry)) ⌝ }

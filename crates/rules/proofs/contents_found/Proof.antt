@@ -1,12 +1,12 @@
 use Prim.Native.Nat.{ℕ, _+_, _-_, _≤_, _<_}
-use mathlib.Core.Path.{_≡_, refl, sym, ap, _∙_}
+use mathlib.Core.Path.{_≡_, refl, sym, _∙_}
 use mathlib.Core.List.{List, []}
 use native.Mathlib.Omega.{arith}
 use borrow.Author.Needs.{needs}
 use lib.ListN.{length, getD, drop, drop-of-length-le}
 use Rattle.dirf.specs.Bytes.{Text}
 use Rattle.dirf.specs.Fields.{fieldOrder}
-use Rattle.dirf.specs.Rules.{Found, keeps, orElse, askField, askFields}
+use Rattle.dirf.specs.Rules.{orElse, askField, askFields}
 use Rattle.layout.specs.Tables.{countIn, rowsIn}
 use Rattle.layout.specs.Codes.{rowCodes, rowSaid}
 use Rattle.layout.proofs.Laws.{rows-length}

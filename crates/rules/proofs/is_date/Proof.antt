@@ -4,7 +4,7 @@ use mathlib.Core.Bool.{true}
 use native.Mathlib.Nat.{le-trans, min-le-left}
 use native.Mathlib.Omega.{arith}
 use borrow.Author.Needs.{needs}
-use lib.ListN.{length, take, drop, length-take, length-drop}
+use lib.ListN.{length, drop, length-take, length-drop}
 use lib.Seq.{take-all}
 use Rattle.dirf.specs.Bytes.{Text, every, isDigit}
 use Rattle.dirf.specs.Numbers.{valueOf, isDay, isDate}
@@ -15,7 +15,8 @@ use Rattle.rules.proofs.is_date.Statement.{statement}
 use Rattle.rules.proofs.is_date.Tie as tie
 
 -- a part of so many digits can be read
-readable : (s : Text) (start len : ℕ) → every isDigit s ≡ true → len ≤ 18 → (every isDigit (partOf s start len) ≡ true) × (length (partOf s start len) ≤ 18)
+readable : (s : Text) (start len : ℕ) → every isDigit s ≡ true → len ≤ 18
+    → (every isDigit (partOf s start len) ≡ true) × (length (partOf s start len) ≤ 18)
 unfolding partOf
 readable s start len e h = (every-part isDigit s start len e, rw length-take (le-trans (min-le-left _ _) h))
 

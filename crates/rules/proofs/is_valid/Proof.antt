@@ -1,4 +1,4 @@
-use mathlib.Core.Path.{sym, _∙_}
+use mathlib.Core.Path.{_∙_}
 use mathlib.Core.Bool.{or-false}
 use borrow.Author.Needs.{needs}
 use Rattle.dirf.specs.Bytes.{lookup, some}

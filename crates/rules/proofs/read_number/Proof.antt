@@ -8,7 +8,6 @@ use Rattle.dirf.specs.Rules.{Found, keeps, breaks, askField}
 use Rattle.dirf.specs.Amounts.{readAs, readNumber}
 use Rattle.layout.specs.Tables.{rowOf}
 use Rattle.layout.specs.Codes.{rowSaid}
-use Rattle.rules.specs.declared.NumberRead.{NumberRead}
 use Rattle.rules.specs.Findings.{numberOf, numberRead}
 use Rattle.rules.proofs.FieldOrder.{nothing, kept-digits}
 use Rattle.rules.proofs.read_number.Statement.{statement}
@@ -34,6 +33,8 @@ read-number-spec =
     (λ c. search needs)
     (λ c. search needs)
     (λ c κs. search needs)
-    (λ c. let a = c .before .before .before .before .args in refused (askField 0 fieldOrder [] (rowSaid (a .row)) (a .s .now)) (a .s .now) (c .before .field-rule .ensures) (c .if1 .taken))
+    (λ c.
+    let a = c .before .before .before .before .args in
+    refused (askField 0 fieldOrder [] (rowSaid (a .row)) (a .s .now)) (a .s .now) (c .before .field-rule .ensures) (c .if1 .taken))
     (λ c κs. let t = c .before .before .before .before in kept-digits (rowSaid (t .args .row)) (t .args .s .now) (t .pre .0) (t .pre .2) (kept c))
     (λ c. rw (kept (c .before), c .value .ensures)))

@@ -1,7 +1,6 @@
 use mathlib.Core.Path.{refl, sym}
 use mathlib.Core.Bool.{true, false}
 use mathlib.Core.List.{[], _∷_}
-use native.Mathlib.Omega.{arith}
 use lib.Dec.{ltb}
 use borrow.Author.Needs.{needs, zero≤}
 use borrow.Author.Tests.{le-ltb}

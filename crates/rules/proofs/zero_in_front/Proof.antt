@@ -1,5 +1,5 @@
 use Prim.Native.Nat.{ℕ}
-use mathlib.Core.Path.{_≡_, refl, sym, _∙_}
+use mathlib.Core.Path.{_≡_, refl}
 use mathlib.Core.Bool.{false, and-true, and-false}
 use mathlib.Core.List.{[], _∷_}
 use native.Mathlib.Omega.{arith}

@@ -1,0 +1,54 @@
+-- What is left of the field and its bar goes where the last byte ended.
+use Prim.Native.Nat.{_+_, _-_, _≤_}
+use mathlib.Core.Path.{_≡_, sym, _∙_}
+use mathlib.Core.List.{[], _∷_, _++_}
+use native.Mathlib.Nat.{add-zero}
+use native.Mathlib.Omega.{arith}
+use lib.ListN.{length, drop, length-set}
+use lib.Seq.{sets}
+use Rattle.dirf.specs.Limits.{bar}
+use Rattle.writer.proofs.Stores.{field-on, field-end}
+use Rattle.writer.proofs.put_field.Statement.{statement}
+use Rattle.writer.proofs.put_field.Tie as tie
+
+abbrev Inv-loop : tie.InvT-loop
+Inv-loop field out₀ at i₀ out i =
+    ((i ≤ length field) × (length out ≡ length out₀)) × (sets out₀ at (field ++ (bar ∷ [])) ≡ sets out (at + i) (drop i field ++ (bar ∷ [])))
+
+abbrev μ-loop : tie.MeasureT-loop
+μ-loop field out₀ at i₀ out i = length field - i
+
+loop-holds : tie.Need-loop-holds Inv-loop μ-loop
+loop-holds c = (omega arith, rw add-zero)
+
+loop-again : tie.Need-loop-again Inv-loop μ-loop
+loop-again c =
+    let l = c .before .before .loop in
+    let at = c .before .before .before .args .at in
+    (simp length-set (omega arith), l .inv .1 ∙ field-on _ (l .out) at (l .i) (c .before .loop-test .taken))
+
+returns : tie.Need-returns Inv-loop μ-loop
+returns c =
+    let l = c .before .loop in
+    let at = c .before .before .args .at in
+    (omega arith, sym (l .inv .1 ∙ field-end _ (l .out) at (l .i) (c .loop-test .left)))
+
+pub put-field-spec : {M : Type 1} → statement M
+put-field-spec =
+    tie.close
+    (tie.spec
+    Inv-loop
+    μ-loop
+    loop-holds
+    (λ c. omega arith)
+    (λ c. omega arith)
+    (λ c. omega arith)
+    (λ c. omega arith)
+    (λ c. omega arith)
+    loop-again
+    (λ c. omega arith)
+    (λ c. omega arith)
+    (λ c. omega arith)
+    (λ c. omega arith)
+    (λ c. simp length-set (omega arith))
+    returns)
