@@ -1,0 +1,65 @@
+/* Dirf 2025: the check of a file, the field reader, the readers and writers of
+   amounts and month counts, and the line writer, as document 01 sets them.
+   Every function takes every input; a pointer may be NULL where its length or
+   room is 0. An output never overlaps an input. */
+#ifndef PLAIN_H
+#define PLAIN_H
+
+#include <stddef.h>
+#include <stdint.h>
+
+/* number 0: accepted, line is the last line. Else the first breach. */
+typedef struct { uint32_t number, line, field; size_t entries; } plain_answer;
+
+/* The check. The table has table_len numbers, four an entry: kind, start,
+   length without the line end, parent's line number. Room is table_len / 4.
+   Numbers that are no part of an entry of the answer stay untouched. */
+plain_answer plain_check(const uint8_t *file, size_t file_len,
+                         uint32_t *table, size_t table_len);
+
+/* The same with a room in entries and no table. */
+plain_answer plain_check_room(const uint8_t *file, size_t file_len, size_t room);
+
+/* Field k of a line, from 1. Gives 1, or 0 with the line's end and length 0. */
+int plain_field(const uint8_t *line, size_t line_len, size_t k,
+                size_t *start, size_t *length);
+
+/* number 0, or 14, 15 or 16 with value 0. */
+typedef struct { uint32_t number; uint64_t value; } plain_number;
+plain_number plain_read_amount(const uint8_t *field, size_t len);
+plain_number plain_read_months(const uint8_t *field, size_t len);
+
+/* number 0 and the bytes written, or the refusal and count 0. */
+typedef struct { uint32_t number, field; size_t count; } plain_written;
+plain_written plain_write_amount(uint64_t value, uint8_t *out, size_t room);
+plain_written plain_write_months(uint64_t value, uint8_t *out, size_t room);
+
+/* The line writer: a kind, the contents of all fields one after another,
+   their lengths, and an output. */
+plain_written plain_write_line(uint32_t kind,
+                               const uint8_t *contents, size_t contents_len,
+                               const size_t *lengths, size_t lengths_len,
+                               uint8_t *out, size_t room);
+
+/* Kinds run from 1 to plain_kinds(); NULL and 0 stand for "no such kind". */
+unsigned plain_kinds(void);
+const char *plain_name(unsigned kind);
+int plain_is_base(unsigned kind);
+unsigned plain_fields(unsigned kind);
+
+/* The row of field f, from 1, of a base kind; all zero where there is none. */
+typedef struct {
+    char format;            /* 'C', 'N' or 'D' */
+    int fixed;
+    unsigned size;
+    int obligatory;
+    const char *values;     /* printed values joined by a comma, or NULL */
+    int amount, months, ddd, telephone, cpf_or_cnpj;
+} plain_row;
+plain_row plain_field_row(unsigned kind, unsigned f);
+
+/* 1 if the child kind may stand directly below the parent kind under the
+   declarant kind (3 DECPF, 4 DECPJ). */
+int plain_below(unsigned declarant, unsigned parent, unsigned child);
+
+#endif

@@ -1,0 +1,65 @@
+/* What the parts of the checker share with each other and with nobody else. */
+#ifndef PLAIN_INNER_H
+#define PLAIN_INNER_H
+
+#include "plain.h"
+
+/* In the order in which list 2.2 first names them, DECPF before DECPJ. */
+enum kind {
+    NO_KIND,
+    DIRF, RESPO, DECPF, DECPJ, IDREC, BPFDEC,
+    RTRT, RTPO, RTDP, RTDS, RTIRF, CJAC, CJAA,
+    ESRT, ESPO, ESDP, ESDS, ESIR, ESDJ,
+    INFPC, RTPP, RTFA, RTSP, RTEP, ESPP, ESFA, ESSP, ESEP,
+    INFPA, RTPA, ESPA,
+    RIDAC, RIIRP, RIAP, RIMOG, RIP65, RIBMR, RICAP, RIRPC,
+    RIL96, RIPTS, RIJMRE, RIO,
+    BPJDEC, VPEIM, RIMUN, RISEN,
+    FCI, BPFFCI, BPJFCI,
+    PROC, BPFPROC, RIRSR, BPJPROC,
+    RRA, BPFRRA, DAJUD, QTMESES,
+    SCP, BPFSCP, RISCP, BPJSCP,
+    PSE, OPSE, TPSE, RTPSE, DTPSE, RDTPSE,
+    RPDE, BRPDE, VRPDE, INF, FIMDIRF,
+    KINDS = FIMDIRF
+};
+
+enum role { LATER, HEAD, DECLARANT, CODE, BLOCK, BENEFICIARY, VALUE, END };
+enum rule { NO_RULE, AMOUNT, MONTHS, DDD, TELEPHONE, CPF_OR_CNPJ };
+
+enum { BAR = 124, CR = 13, LF = 10 };
+enum { MOST_FIELDS = 15 };
+enum { AMOUNT_DIGITS = 13, MONTHS_DIGITS = 4 };
+
+/* One row of the field tables. */
+typedef struct {
+    char format;
+    uint8_t fixed, size, obligatory, rule;
+    const char *values;
+} row;
+
+/* One kind. rows begin at field 2; field 1, the identifier, is name's own. */
+typedef struct {
+    char name[8];
+    uint8_t name_len, name_fixed, name_size, role, fields;
+    const row *rows;
+} record;
+
+/* A part of somebody else's bytes. */
+typedef struct { const uint8_t *bytes; size_t len; } part;
+
+/* 0, or the number of the first breach in the given field. */
+typedef struct { uint32_t number, field; } fault;
+
+extern const record plain_records[KINDS + 1];
+
+/* The kind that an identifier names, or NO_KIND. */
+uint32_t plain_kind_of(part identifier);
+
+/* The row of field f, which has to be one of the kind's fields. */
+row plain_row_of(uint32_t kind, unsigned f);
+
+/* 13 to 18 over all fields of a base kind, then 19. */
+fault plain_fields_fault(uint32_t kind, const part *fields);
+
+#endif

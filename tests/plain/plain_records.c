@@ -1,0 +1,303 @@
+/* The kinds and the field rows, transcribed from the two sources. */
+#include <string.h>
+
+#include "plain_inner.h"
+
+enum { VARIABLE, FIXED };
+enum { OPTIONAL, OBLIGATORY };
+
+/* 3.1, fields 2 to 6 */
+static const row dirf_rows[] = {
+    {'N', FIXED, 4, OBLIGATORY, NO_RULE, "2025"},
+    {'N', FIXED, 4, OBLIGATORY, NO_RULE, "2024"},
+    {'C', FIXED, 1, OBLIGATORY, NO_RULE, "S,N"},
+    {'N', FIXED, 12, OPTIONAL, NO_RULE, NULL},
+    {'C', FIXED, 7, OBLIGATORY, NO_RULE, "R6GP3ZA"},
+};
+
+/* 3.2, fields 2 to 8 */
+static const row respo_rows[] = {
+    {'N', FIXED, 11, OBLIGATORY, NO_RULE, NULL},
+    {'C', VARIABLE, 60, OBLIGATORY, NO_RULE, NULL},
+    {'N', FIXED, 2, OBLIGATORY, DDD, NULL},
+    {'N', VARIABLE, 9, OBLIGATORY, TELEPHONE, NULL},
+    {'N', VARIABLE, 6, OPTIONAL, NO_RULE, NULL},
+    {'N', VARIABLE, 9, OPTIONAL, TELEPHONE, NULL},
+    {'C', VARIABLE, 50, OPTIONAL, NO_RULE, NULL},
+};
+
+/* 3.3, fields 2 to 15 */
+static const row decpf_rows[] = {
+    {'N', FIXED, 11, OBLIGATORY, NO_RULE, NULL},
+    {'C', VARIABLE, 60, OBLIGATORY, NO_RULE, NULL},
+    {'C', FIXED, 1, OBLIGATORY, NO_RULE, "S,N"},
+    {'C', FIXED, 1, OBLIGATORY, NO_RULE, "S,N"},
+    {'C', FIXED, 1, OBLIGATORY, NO_RULE, "S,N"},
+    {'C', FIXED, 1, OBLIGATORY, NO_RULE, "S,N"},
+    {'C', FIXED, 1, OBLIGATORY, NO_RULE, "S,N"},
+    {'D', FIXED, 8, OPTIONAL, NO_RULE, NULL},
+    {'N', FIXED, 1, OPTIONAL, NO_RULE, "1,2"},
+    {'C', FIXED, 1, OBLIGATORY, NO_RULE, "S,N"},
+    {'D', FIXED, 8, OPTIONAL, NO_RULE, NULL},
+    {'N', FIXED, 1, OPTIONAL, NO_RULE, "0,1"},
+    {'N', FIXED, 11, OPTIONAL, NO_RULE, NULL},
+    {'C', VARIABLE, 60, OPTIONAL, NO_RULE, NULL},
+};
+
+/* 3.4, fields 2 to 14 */
+static const row decpj_rows[] = {
+    {'N', FIXED, 14, OBLIGATORY, NO_RULE, NULL},
+    {'C', VARIABLE, 150, OBLIGATORY, NO_RULE, NULL},
+    {'N', FIXED, 1, OBLIGATORY, NO_RULE, "0,1,2,3,4,8"},
+    {'N', FIXED, 11, OBLIGATORY, NO_RULE, NULL},
+    {'C', FIXED, 1, OBLIGATORY, NO_RULE, "S,N"},
+    {'C', FIXED, 1, OBLIGATORY, NO_RULE, "S,N"},
+    {'C', FIXED, 1, OBLIGATORY, NO_RULE, "S,N"},
+    {'C', FIXED, 1, OBLIGATORY, NO_RULE, "S,N"},
+    {'C', FIXED, 1, OBLIGATORY, NO_RULE, "S,N"},
+    {'C', FIXED, 1, OBLIGATORY, NO_RULE, "S,N"},
+    {'C', FIXED, 1, OBLIGATORY, NO_RULE, "S,N"},
+    {'C', FIXED, 1, OBLIGATORY, NO_RULE, "S,N"},
+    {'D', FIXED, 8, OPTIONAL, NO_RULE, NULL},
+};
+
+/* 3.5, field 2; the codes are printed in neither source */
+static const row idrec_rows[] = {
+    {'N', FIXED, 4, OBLIGATORY, NO_RULE, NULL},
+};
+
+/* 3.6, fields 2 to 6 */
+static const row bpfdec_rows[] = {
+    {'N', FIXED, 11, OBLIGATORY, NO_RULE, NULL},
+    {'C', VARIABLE, 60, OBLIGATORY, NO_RULE, NULL},
+    {'D', FIXED, 8, OPTIONAL, NO_RULE, NULL},
+    {'C', FIXED, 1, OBLIGATORY, NO_RULE, "S,N"},
+    {'C', FIXED, 1, OBLIGATORY, NO_RULE, "S,N"},
+};
+
+/* 3.7, 3.9, 3.11, 3.14 and 3.23, fields 2 and 3: a CNPJ and its name */
+static const row cnpj_rows[] = {
+    {'N', FIXED, 14, OBLIGATORY, NO_RULE, NULL},
+    {'C', VARIABLE, 150, OBLIGATORY, NO_RULE, NULL},
+};
+
+/* 3.10 and 3.13, fields 2 to 4 */
+static const row dated_cpf_rows[] = {
+    {'N', FIXED, 11, OBLIGATORY, NO_RULE, NULL},
+    {'C', VARIABLE, 60, OBLIGATORY, NO_RULE, NULL},
+    {'D', FIXED, 8, OPTIONAL, NO_RULE, NULL},
+};
+
+/* 3.12, fields 2 to 7 */
+static const row proc_rows[] = {
+    {'N', FIXED, 1, OBLIGATORY, NO_RULE, "1,2,3"},
+    {'C', VARIABLE, 20, OBLIGATORY, NO_RULE, NULL},
+    {'N', FIXED, 1, OPTIONAL, NO_RULE, "1,2"},
+    {'N', VARIABLE, 14, OPTIONAL, CPF_OR_CNPJ, NULL},
+    {'C', VARIABLE, 150, OPTIONAL, NO_RULE, NULL},
+    {'N', VARIABLE, 13, OPTIONAL, AMOUNT, NULL},
+};
+
+/* 3.15, fields 2 to 7 */
+static const row rra_rows[] = {
+    {'N', FIXED, 1, OBLIGATORY, NO_RULE, "1,2"},
+    {'C', VARIABLE, 20, OPTIONAL, NO_RULE, NULL},
+    {'N', FIXED, 1, OPTIONAL, NO_RULE, "1,2"},
+    {'N', VARIABLE, 14, OPTIONAL, CPF_OR_CNPJ, NULL},
+    {'C', VARIABLE, 150, OPTIONAL, NO_RULE, NULL},
+    {'N', VARIABLE, 13, OPTIONAL, AMOUNT, NULL},
+};
+
+/* 3.16, fields 2 to 6 */
+static const row bpfrra_rows[] = {
+    {'N', FIXED, 11, OBLIGATORY, NO_RULE, NULL},
+    {'C', VARIABLE, 60, OBLIGATORY, NO_RULE, NULL},
+    {'C', VARIABLE, 50, OPTIONAL, NO_RULE, NULL},
+    {'D', FIXED, 8, OPTIONAL, NO_RULE, NULL},
+    {'C', FIXED, 1, OBLIGATORY, NO_RULE, "S,N"},
+};
+
+#define MONEY {'N', VARIABLE, AMOUNT_DIGITS, OPTIONAL, AMOUNT, NULL}
+#define TENTHS {'N', VARIABLE, MONTHS_DIGITS, OPTIONAL, MONTHS, NULL}
+
+/* 3.19, fields 2 to 14: the twelve months and the thirteenth pay */
+static const row monthly_rows[] = {
+    MONEY, MONEY, MONEY, MONEY, MONEY, MONEY, MONEY,
+    MONEY, MONEY, MONEY, MONEY, MONEY, MONEY,
+};
+
+/* 3.20, field 2 */
+static const row yearly_rows[] = {
+    {'N', VARIABLE, 13, OBLIGATORY, AMOUNT, NULL},
+};
+
+/* 3.21, fields 2 and 3 */
+static const row rio_rows[] = {
+    {'N', VARIABLE, 13, OBLIGATORY, AMOUNT, NULL},
+    {'C', VARIABLE, 60, OBLIGATORY, NO_RULE, NULL},
+};
+
+/* 3.22, fields 2 to 13 */
+static const row qtmeses_rows[] = {
+    TENTHS, TENTHS, TENTHS, TENTHS, TENTHS, TENTHS,
+    TENTHS, TENTHS, TENTHS, TENTHS, TENTHS, TENTHS,
+};
+
+/* 3.24, fields 2 to 4; the share is no amount and no month count */
+static const row bpfscp_rows[] = {
+    {'N', FIXED, 11, OBLIGATORY, NO_RULE, NULL},
+    {'C', VARIABLE, 60, OBLIGATORY, NO_RULE, NULL},
+    {'N', VARIABLE, 4, OPTIONAL, NO_RULE, NULL},
+};
+
+/* 3.25, fields 2 to 4; the share is printed as C here */
+static const row bpjscp_rows[] = {
+    {'N', FIXED, 14, OBLIGATORY, NO_RULE, NULL},
+    {'C', VARIABLE, 150, OBLIGATORY, NO_RULE, NULL},
+    {'C', VARIABLE, 4, OPTIONAL, NO_RULE, NULL},
+};
+
+#define ROWS(rows) 1 + sizeof (rows) / sizeof *(rows), rows
+#define ONE(name, role, rows) \
+    {name, sizeof name - 1, FIXED, sizeof name - 1, role, ROWS(rows)}
+#define MONTHLY(name) \
+    {name, sizeof name - 1, VARIABLE, 5, VALUE, ROWS(monthly_rows)}
+#define YEARLY(name) \
+    {name, sizeof name - 1, VARIABLE, 6, VALUE, ROWS(yearly_rows)}
+#define LEFT(name) {name, sizeof name - 1, FIXED, sizeof name - 1, LATER, 0, NULL}
+
+const record plain_records[KINDS + 1] = {
+    [DIRF] = ONE("Dirf", HEAD, dirf_rows),
+    [RESPO] = ONE("RESPO", HEAD, respo_rows),
+    [DECPF] = ONE("DECPF", DECLARANT, decpf_rows),
+    [DECPJ] = ONE("DECPJ", DECLARANT, decpj_rows),
+    [IDREC] = ONE("IDREC", CODE, idrec_rows),
+    [BPFDEC] = ONE("BPFDEC", BENEFICIARY, bpfdec_rows),
+    [RTRT] = MONTHLY("RTRT"),
+    [RTPO] = MONTHLY("RTPO"),
+    [RTDP] = MONTHLY("RTDP"),
+    [RTDS] = MONTHLY("RTDS"),
+    [RTIRF] = MONTHLY("RTIRF"),
+    [CJAC] = MONTHLY("CJAC"),
+    [CJAA] = MONTHLY("CJAA"),
+    [ESRT] = MONTHLY("ESRT"),
+    [ESPO] = MONTHLY("ESPO"),
+    [ESDP] = MONTHLY("ESDP"),
+    [ESDS] = MONTHLY("ESDS"),
+    [ESIR] = MONTHLY("ESIR"),
+    [ESDJ] = MONTHLY("ESDJ"),
+    [INFPC] = LEFT("INFPC"),
+    [RTPP] = MONTHLY("RTPP"),
+    [RTFA] = MONTHLY("RTFA"),
+    [RTSP] = MONTHLY("RTSP"),
+    [RTEP] = LEFT("RTEP"),
+    [ESPP] = MONTHLY("ESPP"),
+    [ESFA] = MONTHLY("ESFA"),
+    [ESSP] = MONTHLY("ESSP"),
+    [ESEP] = LEFT("ESEP"),
+    [INFPA] = LEFT("INFPA"),
+    [RTPA] = MONTHLY("RTPA"),
+    [ESPA] = MONTHLY("ESPA"),
+    [RIDAC] = MONTHLY("RIDAC"),
+    [RIIRP] = MONTHLY("RIIRP"),
+    [RIAP] = MONTHLY("RIAP"),
+    [RIMOG] = MONTHLY("RIMOG"),
+    [RIP65] = MONTHLY("RIP65"),
+    [RIBMR] = MONTHLY("RIBMR"),
+    [RICAP] = MONTHLY("RICAP"),
+    [RIRPC] = MONTHLY("RIRPC"),
+    [RIL96] = YEARLY("RIL96"),
+    [RIPTS] = YEARLY("RIPTS"),
+    [RIJMRE] = YEARLY("RIJMRE"),
+    [RIO] = ONE("RIO", VALUE, rio_rows),
+    [BPJDEC] = ONE("BPJDEC", BENEFICIARY, cnpj_rows),
+    [VPEIM] = LEFT("VPEIM"),
+    [RIMUN] = LEFT("RIMUN"),
+    [RISEN] = LEFT("RISEN"),
+    [FCI] = ONE("FCI", BLOCK, cnpj_rows),
+    [BPFFCI] = ONE("BPFFCI", BENEFICIARY, dated_cpf_rows),
+    [BPJFCI] = ONE("BPJFCI", BENEFICIARY, cnpj_rows),
+    [PROC] = ONE("PROC", BLOCK, proc_rows),
+    [BPFPROC] = ONE("BPFPROC", BENEFICIARY, dated_cpf_rows),
+    [RIRSR] = YEARLY("RIRSR"),
+    [BPJPROC] = ONE("BPJPROC", BENEFICIARY, cnpj_rows),
+    [RRA] = ONE("RRA", BLOCK, rra_rows),
+    [BPFRRA] = ONE("BPFRRA", BENEFICIARY, bpfrra_rows),
+    [DAJUD] = MONTHLY("DAJUD"),
+    [QTMESES] = ONE("QTMESES", VALUE, qtmeses_rows),
+    [SCP] = ONE("SCP", BLOCK, cnpj_rows),
+    [BPFSCP] = ONE("BPFSCP", BENEFICIARY, bpfscp_rows),
+    [RISCP] = MONTHLY("RISCP"),
+    [BPJSCP] = ONE("BPJSCP", BENEFICIARY, bpjscp_rows),
+    [PSE] = LEFT("PSE"),
+    [OPSE] = LEFT("OPSE"),
+    [TPSE] = LEFT("TPSE"),
+    [RTPSE] = LEFT("RTPSE"),
+    [DTPSE] = LEFT("DTPSE"),
+    [RDTPSE] = LEFT("RDTPSE"),
+    [RPDE] = LEFT("RPDE"),
+    [BRPDE] = LEFT("BRPDE"),
+    [VRPDE] = LEFT("VRPDE"),
+    [INF] = LEFT("INF"),
+    [FIMDIRF] = {"FIMDirf", 7, FIXED, 7, END, 1, NULL},
+};
+
+uint32_t plain_kind_of(part identifier)
+{
+    for (uint32_t kind = 1; kind <= KINDS; kind++) {
+        const record *r = &plain_records[kind];
+        if (r->name_len == identifier.len
+            && memcmp(r->name, identifier.bytes, identifier.len) == 0)
+            return kind;
+    }
+    return NO_KIND;
+}
+
+row plain_row_of(uint32_t kind, unsigned f)
+{
+    const record *r = &plain_records[kind];
+    if (f > 1)
+        return r->rows[f - 2];
+    /* A line of this kind can hold no other of the printed identifiers. */
+    row name = {'C', r->name_fixed, r->name_size, OBLIGATORY, NO_RULE, r->name};
+    return name;
+}
+
+unsigned plain_kinds(void)
+{
+    return KINDS;
+}
+
+const char *plain_name(unsigned kind)
+{
+    return kind >= 1 && kind <= KINDS ? plain_records[kind].name : NULL;
+}
+
+int plain_is_base(unsigned kind)
+{
+    return kind >= 1 && kind <= KINDS && plain_records[kind].role != LATER;
+}
+
+unsigned plain_fields(unsigned kind)
+{
+    return plain_is_base(kind) ? plain_records[kind].fields : 0;
+}
+
+plain_row plain_field_row(unsigned kind, unsigned f)
+{
+    plain_row out = {0};
+    if (f < 1 || f > plain_fields(kind))
+        return out;
+    row r = plain_row_of(kind, f);
+    out.format = r.format;
+    out.fixed = r.fixed;
+    out.size = r.size;
+    out.obligatory = r.obligatory;
+    out.values = r.values;
+    out.amount = r.rule == AMOUNT;
+    out.months = r.rule == MONTHS;
+    out.ddd = r.rule == DDD;
+    out.telephone = r.rule == TELEPHONE;
+    out.cpf_or_cnpj = r.rule == CPF_OR_CNPJ;
+    return out;
+}

@@ -1,0 +1,250 @@
+/* The check once more, slow and by looking back over all lines read so far:
+   it holds no state but the table, and it finds the parent on the path from
+   the line before up to the declarant. */
+#include <stdio.h>
+#include <stdlib.h>
+#include <string.h>
+
+#include "test_naive.h"
+
+#define KIND(n) table[4 * ((n) - 1)]
+#define START(n) table[4 * ((n) - 1) + 1]
+#define LENGTH(n) table[4 * ((n) - 1) + 2]
+#define PARENT(n) table[4 * ((n) - 1) + 3]
+
+static int is(unsigned kind, const char *name)
+{
+    return plain_name(kind) != NULL && strcmp(plain_name(kind), name) == 0;
+}
+
+static int is_beneficiary(unsigned kind)
+{
+    return strncmp(plain_name(kind), "BPF", 3) == 0
+        || strncmp(plain_name(kind), "BPJ", 3) == 0;
+}
+
+static int is_block(unsigned kind)
+{
+    return is(kind, "FCI") || is(kind, "PROC") || is(kind, "RRA") || is(kind, "SCP");
+}
+
+static int date_exists(const uint8_t *at)
+{
+    int y, m, d;
+    char text[9] = {0};
+    memcpy(text, at, 8);
+    if (sscanf(text, "%4d%2d%2d", &y, &m, &d) != 3)
+        return 0;
+    if (y < 1900 || y > 2099 || m < 1 || m > 12 || d < 1)
+        return 0;
+    int leap = (y % 4 == 0) - (y % 100 == 0) + (y % 400 == 0);
+    int last = m == 2 ? 28 + leap : m == 4 || m == 6 || m == 9 || m == 11 ? 30 : 31;
+    return d <= last;
+}
+
+static int value_listed(const char *values, const uint8_t *at, size_t len)
+{
+    char list[64];
+    snprintf(list, sizeof list, "%s", values);
+    for (char *v = strtok(list, ","); v != NULL; v = strtok(NULL, ","))
+        if (strlen(v) == len && memcmp(v, at, len) == 0)
+            return 1;
+    return 0;
+}
+
+uint32_t naive_field(unsigned kind, unsigned f, const uint8_t *at, size_t len)
+{
+    plain_row r = plain_field_row(kind, f);
+    if (len == 0)
+        return r.obligatory ? 13 : 0;
+    for (size_t i = 0; i < len; i++) {
+        if (r.format != 'C' && (at[i] < 48 || at[i] > 57))
+            return 14;
+        if (at[i] == '|' || at[i] == '\r' || at[i] == '\n')
+            return 14;
+    }
+    if (len > r.size || (r.fixed && len < r.size))
+        return 15;
+    if (r.telephone && len < 8)
+        return 15;
+    if (r.cpf_or_cnpj && len != 11 && len != 14)
+        return 15;
+    if ((r.amount || r.months || r.ddd) && at[0] == '0')
+        return 16;
+    if (r.format == 'D' && !date_exists(at))
+        return 17;
+    if (r.values != NULL && !value_listed(r.values, at, len))
+        return 18;
+    return 0;
+}
+
+/* The order in which siblings stand; equal numbers stand in any order. */
+static int order_of(unsigned kind)
+{
+    static const char *const order[] = {"IDREC", "FCI", "PROC", "RRA", "SCP"};
+    for (int i = 0; i < 5; i++)
+        if (is(kind, order[i]))
+            return i;
+    return strncmp(plain_name(kind), "BPJ", 3) == 0 ? 1 : 0;
+}
+
+/* The beneficiaries of the declarant end in DEC, the others in their block's name. */
+static int block_fits(const uint32_t *table, uint32_t code, unsigned kind)
+{
+    if (!is(KIND(code), "IDREC"))
+        return 1;
+    unsigned above = KIND(PARENT(code));
+    const char *tail = plain_name(kind) + 3;
+    return strcmp(tail, is_block(above) ? plain_name(above) : "DEC") == 0;
+}
+
+/* The parent's line, or -1 if the record may not stand here. */
+static long parent_of(const uint32_t *table, uint32_t n, unsigned kind)
+{
+    if (n <= 3)
+        return n == 1 ? (is(kind, "Dirf") ? 0 : -1)
+             : n == 2 ? (is(kind, "RESPO") ? 0 : -1)
+             : is(kind, "DECPF") || is(kind, "DECPJ") ? 0 : -1;
+    if (is(kind, "FIMDirf"))
+        return 0;
+    for (uint32_t up = n - 1; up >= 3; up = PARENT(up)) {
+        if (!plain_below(KIND(3), KIND(up), kind))
+            continue;
+        if (is_beneficiary(kind) && !block_fits(table, up, kind))
+            return -1;
+        for (uint32_t m = up + 1; m < n; m++)
+            if (PARENT(m) == up && order_of(KIND(m)) > order_of(kind))
+                return -1;
+        return up;
+    }
+    return -1;
+}
+
+static int key_greater(const uint8_t *file, const uint32_t *table, uint32_t before,
+                       size_t start, size_t len, unsigned kind)
+{
+    unsigned last = is(kind, "PROC") || is(kind, "RRA") ? 3 : 2;
+    for (unsigned f = 2; f <= last; f++) {
+        size_t s1, l1, s2, l2, i = 0;
+        plain_field(file + START(before), LENGTH(before), f, &s1, &l1);
+        plain_field(file + start, len, f, &s2, &l2);
+        const uint8_t *a = file + START(before) + s1, *b = file + start + s2;
+        while (i < l1 && i < l2 && a[i] == b[i])
+            i++;
+        if (i < l1 && i < l2)
+            return b[i] > a[i];
+        if (l1 != l2)
+            return l2 > l1;
+    }
+    return 0;
+}
+
+static uint32_t condition(const uint8_t *line, size_t len)
+{
+    char v[16] = {0};
+    for (unsigned f = 1; f <= 15; f++) {
+        size_t s, l;
+        plain_field(line, len, f, &s, &l);
+        v[f] = l ? (char)line[s] : 0;
+    }
+    uint32_t lowest = 0;
+    if (v[8] == 'S' && v[13])
+        lowest = 13;
+    if (v[8] == 'S' && v[10] == '1' && v[11] != 'S')
+        lowest = 11;
+    if (v[8] == 'S' && !v[10])
+        lowest = 10;
+    if (v[8] == 'S' && !v[9])
+        lowest = 9;
+    return lowest;
+}
+
+typedef struct { uint32_t number, field; } breach;
+
+static breach fields_breach(unsigned kind, const uint8_t *line, size_t len)
+{
+    size_t bars = 0;
+    for (size_t i = 0; i < len; i++)
+        bars += line[i] == '|';
+    if (bars != plain_fields(kind))
+        return (breach){11, 0};
+    for (unsigned f = 1; f <= bars; f++) {
+        size_t s, l;
+        plain_field(line, len, f, &s, &l);
+        uint32_t number = naive_field(kind, f, line + s, l);
+        if (number)
+            return (breach){number, f};
+    }
+    if (is(kind, "DECPF") && condition(line, len))
+        return (breach){19, condition(line, len)};
+    return (breach){0, 0};
+}
+
+static unsigned kind_named(const uint8_t *line, size_t len)
+{
+    for (unsigned k = 1; k <= plain_kinds(); k++)
+        if (strlen(plain_name(k)) == len && memcmp(plain_name(k), line, len) == 0)
+            return k;
+    return 0;
+}
+
+static breach line_breach(const uint8_t *file, uint32_t *table, uint32_t n,
+                          size_t start, size_t len)
+{
+    const uint8_t *line = file + start;
+    size_t s, l;
+    if (len == 0 || line[len - 1] != '|')
+        return (breach){8, 0};
+    plain_field(line, len, 1, &s, &l);
+    unsigned kind = kind_named(line, l);
+    if (!kind)
+        return (breach){9, 1};
+    if (!plain_is_base(kind))
+        return (breach){10, 1};
+    long parent = parent_of(table, n, kind);
+    if (parent < 0)
+        return (breach){12, 1};
+    breach b = fields_breach(kind, line, len);
+    if (b.number)
+        return b;
+    uint32_t before = 0;
+    for (uint32_t m = 4; parent && m < n; m++)
+        if (PARENT(m) == (uint32_t)parent && KIND(m) == kind)
+            before = m;
+    int keyed = is_beneficiary(kind) || is_block(kind) || is(kind, "IDREC");
+    if (before && !keyed)
+        return (breach){21, 1};
+    if (before && !key_greater(file, table, before, start, len, kind))
+        return (breach){20, 2};
+    KIND(n) = kind;
+    START(n) = (uint32_t)start;
+    LENGTH(n) = (uint32_t)len;
+    PARENT(n) = (uint32_t)parent;
+    return b;
+}
+
+plain_answer naive_check(const uint8_t *file, size_t len, uint32_t *table, size_t room)
+{
+    size_t at = 0;
+    for (uint32_t n = 1;; n++) {
+        int ended = n > 1 && is(KIND(n - 1), "FIMDirf");
+        size_t i = at;
+        if (at == len && ended)
+            return (plain_answer){0, n - 1, 0, n - 1};
+        uint32_t number = at == len ? 1 : ended ? 2 : n == 65537 ? 3 : 0;
+        while (i < len && file[i] != '\r' && file[i] != '\n')
+            i++;
+        int cr = i < len && file[i] == '\r', lf = i + 1 < len && file[i + 1] == '\n';
+        if (!number)
+            number = i - at > 1024 ? 4 : i == len || (cr && i + 1 == len) ? 5
+                   : !(cr && lf) ? 6 : 0;
+        if (number)
+            return (plain_answer){number, n, 0, n - 1};
+        breach b = line_breach(file, table, n, at, i - at);
+        if (b.number)
+            return (plain_answer){b.number, n, b.field, n - 1};
+        if (room < n)
+            return (plain_answer){7, n, 0, n - 1};
+        at = i + 2;
+    }
+}

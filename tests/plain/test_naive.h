@@ -1,0 +1,13 @@
+/* A slow second reading of the check, for tests alone. */
+#ifndef TEST_NAIVE_H
+#define TEST_NAIVE_H
+
+#include "plain.h"
+
+/* Fills entries of four numbers for every line read; table has room for all. */
+plain_answer naive_check(const uint8_t *file, size_t len, uint32_t *table, size_t room);
+
+/* 0, or the number of the first breach of one field among 13 to 18. */
+uint32_t naive_field(unsigned kind, unsigned f, const uint8_t *at, size_t len);
+
+#endif

@@ -1,0 +1,1459 @@
+/* The tests: the marked examples, every number alone, the order of the numbers,
+   the tree, every field row, cuts, rooms, random bytes and changed files. */
+#include <stdio.h>
+#include <stdlib.h>
+#include <string.h>
+
+#include "plain.h"
+#include "test_naive.h"
+
+enum { DECPF = 3, DECPJ = 4 };
+#define UNTOUCHED 0xA5A5A5A5u
+
+static unsigned long cases, wrong;
+static unsigned long given[32];         /* how often each number was seen */
+
+static void is_true(int ok, const char *what, unsigned long a, unsigned long b)
+{
+    cases++;
+    if (!ok && wrong++ < 40)
+        printf("WRONG %s (%lu, %lu)\n", what, a, b);
+}
+
+/* ---- random numbers, the same on every run ---- */
+
+static uint64_t rng = 88172645463325252u;
+
+static uint32_t below_n(uint32_t n)
+{
+    rng ^= rng << 13;
+    rng ^= rng >> 7;
+    rng ^= rng << 17;
+    return (uint32_t)((rng >> 20) % n);
+}
+
+/* ---- a text that grows ---- */
+
+typedef struct { uint8_t *bytes; size_t len, room; } text;
+
+static void add_bytes(text *t, const void *bytes, size_t len)
+{
+    if (t->len + len > t->room) {
+        t->room = 2 * (t->len + len) + 64;
+        t->bytes = realloc(t->bytes, t->room);
+        if (t->bytes == NULL)
+            abort();
+    }
+    if (len > 0)
+        memcpy(t->bytes + t->len, bytes, len);
+    t->len += len;
+}
+
+static void add(text *t, const char *s)
+{
+    add_bytes(t, s, strlen(s));
+}
+
+static void add_line(text *t, const char *s)
+{
+    add(t, s);
+    add(t, "\r\n");
+}
+
+static void drop(text *t)
+{
+    free(t->bytes);
+    *t = (text){0};
+}
+
+/* ---- one run of the check, compared in every way ---- */
+
+static void *exact_copy(const void *bytes, size_t len)
+{
+    void *copy = malloc(len ? len : 1);
+    if (copy == NULL)
+        abort();
+    if (len > 0)
+        memcpy(copy, bytes, len);
+    return copy;
+}
+
+static int equal(plain_answer a, plain_answer b)
+{
+    return a.number == b.number && a.line == b.line && a.field == b.field
+        && a.entries == b.entries;
+}
+
+static size_t count_lf(const uint8_t *bytes, size_t len)
+{
+    size_t n = 0;
+    for (size_t i = 0; i < len; i++)
+        n += bytes[i] == '\n';
+    return n;
+}
+
+/* Answers alike with and without a table, with nothing else touched. */
+static plain_answer run_plain(const uint8_t *bytes, size_t len, size_t room,
+                              uint32_t *entries)
+{
+    size_t numbers = 4 * room + below_n(4);
+    uint8_t *file = exact_copy(bytes, len);
+    uint32_t *table = malloc(numbers * 4 + 1);
+    for (size_t i = 0; i < numbers; i++)
+        table[i] = UNTOUCHED;
+    plain_answer a = plain_check(file, len, table, numbers);
+    is_true(equal(a, plain_check_room(file, len, room)), "room alike", a.number, a.line);
+    is_true(a.number ? a.entries + 1 == a.line : a.entries == a.line,
+            "entries", a.number, a.entries);
+    is_true(a.entries <= room, "entries within room", a.entries, room);
+    int kept = len == 0 || memcmp(file, bytes, len) == 0;
+    for (size_t i = 4 * a.entries; i < numbers; i++)
+        kept = kept && table[i] == UNTOUCHED;
+    is_true(kept, "nothing else touched", a.number, a.line);
+    if (entries != NULL && a.entries <= room && a.entries > 0)
+        memcpy(entries, table, 16 * a.entries);
+    if (a.number < 32)
+        given[a.number]++;
+    free(table);
+    free(file);
+    return a;
+}
+
+static plain_answer run(const uint8_t *bytes, size_t len, size_t room)
+{
+    size_t lines = count_lf(bytes, len) + 2;
+    uint32_t *slow = calloc(lines, 16), *quick = calloc(lines, 16);
+    plain_answer a = run_plain(bytes, len, room < lines ? room : lines, quick);
+    plain_answer b = naive_check(bytes, len, slow, room);
+    is_true(equal(a, b), "as the slow reading", a.number * 100000ul + a.line,
+            b.number * 100000ul + b.line);
+    is_true(memcmp(slow, quick, 16 * (a.entries < lines ? a.entries : 0)) == 0,
+            "table as the slow reading", a.entries, a.line);
+    free(slow);
+    free(quick);
+    return a;
+}
+
+static void expect_room(const char *what, const text *t, size_t room, uint32_t number,
+                        uint32_t line, uint32_t field)
+{
+    plain_answer a = run(t->bytes, t->len, room);
+    size_t entries = number ? line - 1 : line;
+    int ok = equal(a, (plain_answer){number, line, field, entries});
+    is_true(ok, what, number, line);
+    if (!ok)
+        printf("   got %u %u %u %zu, wanted %u %u %u %zu\n", a.number, a.line,
+               a.field, a.entries, number, line, field, entries);
+}
+
+static void expect(const char *what, const text *t, uint32_t number, uint32_t line,
+                   uint32_t field)
+{
+    expect_room(what, t, 3000, number, line, field);
+}
+
+/* ---- parts of files ---- */
+
+#define DIRF_LINE "Dirf|2025|2024|N||R6GP3ZA|"
+#define RESPO_LINE "RESPO|11144477735|ANA LIMA|11|33334444||||"
+#define DECPF_LINE "DECPF|11144477735|ANA LIMA|N|N|N|S|N|||N|||||"
+#define DECPJ_LINE "DECPJ|11222333000181|EMPRESA|0|11144477735|N|N|N|N|N|N|N|N||"
+#define FOURTEEN(id) id "|1||||||||||||9999999999999|"
+
+static text head(unsigned declarant)
+{
+    text t = {0};
+    add_line(&t, DIRF_LINE);
+    add_line(&t, RESPO_LINE);
+    add_line(&t, declarant == DECPF ? DECPF_LINE : DECPJ_LINE);
+    return t;
+}
+
+static text desk_example(void)
+{
+    text t = head(DECPF);
+    add_line(&t, "SCP|11222333000181|SCP SERRA|");
+    add_line(&t, "BPFSCP|11144477735|ANA LIMA||");
+    add_line(&t, "FIMDirf|");
+    return t;
+}
+
+/* Lines joined by a line feed sign ~ after a head; each gets its CR LF. */
+static void expect_after(const char *what, unsigned declarant, const char *lines,
+                         uint32_t number, uint32_t line, uint32_t field)
+{
+    text t = head(declarant);
+    for (const char *s = lines; *s; s += strcspn(s, "~") + (s[strcspn(s, "~")] != 0)) {
+        add_bytes(&t, s, strcspn(s, "~"));
+        add(&t, "\r\n");
+    }
+    expect(what, &t, number, line, field);
+    drop(&t);
+}
+
+/* Three lines of a head with one of them changed. */
+static void expect_head(const char *what, const char *l1, const char *l2, const char *l3,
+                        uint32_t number, uint32_t line, uint32_t field)
+{
+    text t = {0};
+    add_line(&t, l1 ? l1 : DIRF_LINE);
+    add_line(&t, l2 ? l2 : RESPO_LINE);
+    add_line(&t, l3 ? l3 : DECPF_LINE);
+    add_line(&t, "FIMDirf|");
+    expect(what, &t, number, line, field);
+    drop(&t);
+}
+
+static void expect_bytes(const char *what, const char *s, uint32_t number, uint32_t line,
+                         uint32_t field)
+{
+    text t = {0};
+    add(&t, s);
+    expect(what, &t, number, line, field);
+    drop(&t);
+}
+
+/* ---- M1 to M12 ---- */
+
+static plain_written write_fields(unsigned kind, const char *joined, uint8_t *out, size_t room);
+
+static void test_marked(void)
+{
+    text t = {0};
+    uint32_t table[24], want[24] = {
+        1, 0, 26, 0,  2, 28, 42, 0,  3, 72, 45, 0,
+        59, 119, 29, 3,  60, 150, 29, 4,  73, 181, 8, 0};
+    uint8_t out[256];
+    expect("M1", &t, 1, 1, 0);
+    t = desk_example();
+    expect("M2", &t, 0, 6, 0);
+    plain_answer a = plain_check(t.bytes, t.len, table, 24);
+    is_true(a.number == 0 && memcmp(table, want, sizeof want) == 0, "M2 table", a.number, 0);
+    t.len -= 10;
+    expect("M3", &t, 1, 6, 0);
+    add_line(&t, "FIMDirf|");
+    add(&t, "\n");
+    expect("M4", &t, 2, 7, 0);
+    drop(&t);
+    expect_head("M5", "DIRF|2025|2024|N||R6GP3ZA|", NULL, NULL, 9, 1, 1);
+    expect_after("M6", DECPF, "SCP|11222333000181|SCP SERRA|~BPFSCP|11144477735|ANA LIMA||"
+                 "~FIMDirf", 8, 6, 0);
+    expect_head("M7", NULL, NULL, "DECPF|11144477735|ANA LIMA|N|N|N|S|S|||N|||||", 19, 3, 9);
+    expect_after("M8", DECPF, "SCP|11222333000181|SCP SERRA|~BPFSCP|11144477735|ANA LIMA||"
+                 "~BPFSCP|11144477735|ANA LIMA||~FIMDirf|", 20, 6, 2);
+    is_true(plain_read_amount((const uint8_t *)"0", 1).number == 16, "M9", 0, 0);
+    is_true(plain_read_amount((const uint8_t *)"1", 1).value == 1, "M9", 1, 0);
+    is_true(plain_read_amount((const uint8_t *)"9999999999999", 13).value == 9999999999999u,
+            "M10", 13, 0);
+    is_true(plain_read_amount((const uint8_t *)"99999999999999", 14).number == 15, "M10", 14, 0);
+    is_true(write_fields(49, "BPFFCI|11144477735|A|20240229|", out, 256).number == 0, "M11", 0, 0);
+    is_true(write_fields(49, "BPFFCI|11144477735|A|20230229|", out, 256).number == 17, "M11", 1, 0);
+    expect_head("M12", NULL, "RESPO|11144477735|ANA LIMA|01|33334444||||", NULL, 16, 2, 4);
+}
+
+/* ---- every number alone ---- */
+
+#define BPF "IDREC|0561|~BPFDEC|11144477735|A||N|N|"
+
+static void test_lines_alone(void)
+{
+    char longest[1200] = "";
+    memset(longest, 'A', 1024);
+    expect_bytes("1 at once", "", 1, 1, 0);
+    expect_bytes("1 after a head", DIRF_LINE "\r\n" RESPO_LINE "\r\n", 1, 3, 0);
+    text t = desk_example();
+    add(&t, "x");
+    expect("2", &t, 2, 7, 0);
+    t.len--;
+    add_line(&t, "FIMDirf|");
+    expect("2 by a second FIMDirf", &t, 2, 7, 0);
+    drop(&t);
+    expect_bytes("5 with 1,024 bytes", longest, 5, 1, 0);
+    longest[1024] = 'A';
+    expect_bytes("4 with 1,025 bytes", longest, 4, 1, 0);
+    longest[1023] = '|';
+    strcpy(longest + 1024, "\r\n");
+    expect_bytes("9 with 1,024 bytes", longest, 9, 1, 1);
+    strcpy(longest + 1024, "\r");
+    expect_bytes("5 with 1,024 bytes and CR", longest, 5, 1, 0);
+    strcpy(longest + 1024, "\n");
+    expect_bytes("6 with 1,024 bytes and LF", longest, 6, 1, 0);
+    expect_bytes("5", "Dirf|", 5, 1, 0);
+    expect_bytes("5 after CR", "Dirf|\r", 5, 1, 0);
+    expect_bytes("5 of CR alone", "\r", 5, 1, 0);
+    expect_bytes("6 LF alone", "\n", 6, 1, 0);
+    expect_bytes("6 CR then other", DIRF_LINE "\rX", 6, 1, 0);
+    expect_bytes("6 CR CR LF", DIRF_LINE "\r\r\n", 6, 1, 0);
+    expect_bytes("6 LF CR", DIRF_LINE "\n\r", 6, 1, 0);
+    expect_bytes("6 LF, then a first CR at the end", DIRF_LINE "\nX\r", 6, 1, 0);
+    expect_bytes("8 empty line", "\r\n", 8, 1, 0);
+    expect_bytes("8 no bar", "Dirf\r\n", 8, 1, 0);
+    expect_bytes("9 bar alone", "|\r\n", 9, 1, 1);
+}
+
+static void test_records_alone(void)
+{
+    expect_after("9", DECPJ, "BPFICI|", 9, 4, 1);
+    expect_after("9", DECPJ, "BPFRRRA|", 9, 4, 1);
+    expect_after("9", DECPJ, "QTMESSES|", 9, 4, 1);
+    expect_after("9 longer", DECPJ, "FIMDirff|", 9, 4, 1);
+    expect_after("9 shorter", DECPJ, "FIMDir|", 9, 4, 1);
+    expect_after("9 case", DECPJ, "fimdirf|", 9, 4, 1);
+    expect_after("9 blank", DECPJ, " FIMDirf|", 9, 4, 1);
+    expect_after("10", DECPJ, "INFPC|11222333000181|X|", 10, 4, 1);
+    expect_after("10 RTEP", DECPJ, BPF "~" FOURTEEN("RTEP"), 10, 6, 1);
+    expect_after("12 by line 4", DECPJ, DIRF_LINE, 12, 4, 1);
+    expect_after("12 FCI under DECPF", DECPF, "FCI|11222333000181|X|", 12, 4, 1);
+    expect_after("11 few", DECPJ, "IDREC|", 11, 4, 0);
+    expect_after("11 many", DECPJ, "IDREC|0561||", 11, 4, 0);
+    expect_after("11 FIMDirf", DECPJ, "FIMDirf||", 11, 4, 0);
+    expect_after("11 very many", DECPJ, "FIMDirf||||||||||||||||||||||||||||", 11, 4, 0);
+    expect_after("13", DECPJ, "IDREC||", 13, 4, 2);
+    expect_after("14", DECPJ, "IDREC|056A|", 14, 4, 2);
+    expect_after("15", DECPJ, "IDREC|056|", 15, 4, 2);
+    expect_after("16", DECPJ, "PROC|1|7|||| 1|", 14, 4, 7);
+    expect_after("16", DECPJ, "PROC|1|7||||01|", 16, 4, 7);
+    expect_head("16 DDD", NULL, "RESPO|11144477735|ANA|09|33334444||||", NULL, 16, 2, 4);
+    expect_head("17", NULL, NULL, "DECPF|11144477735|ANA|N|N|N|S|S|20230229|2|N|||||", 17, 3, 9);
+    expect_head("18", "Dirf|2024|2024|N||R6GP3ZA|", NULL, NULL, 18, 1, 2);
+    expect_head("18", "Dirf|2025|2025|N||R6GP3ZA|", NULL, NULL, 18, 1, 3);
+    expect_head("18", "Dirf|2025|2024|n||R6GP3ZA|", NULL, NULL, 18, 1, 4);
+    expect_head("18", "Dirf|2025|2024|N||R6GP3Za|", NULL, NULL, 18, 1, 6);
+    expect_head("retificadora passes", "Dirf|2025|2024|S||R6GP3ZA|", NULL, NULL, 0, 4, 0);
+    expect_head("recibo passes", "Dirf|2025|2024|S|000000000000|R6GP3ZA|", NULL, NULL, 0, 4, 0);
+    expect_head("15 recibo", "Dirf|2025|2024|S|00000000000|R6GP3ZA|", NULL, NULL, 15, 1, 5);
+}
+
+
+static void test_conditions_alone(void)
+{
+    struct { const char *line; uint32_t number, field; } c[] = {
+        {"DECPF|11144477735|A|N|N|N|S|S||1|S|||||", 19, 9},
+        {"DECPF|11144477735|A|N|N|N|S|S|20240101||S|||||", 19, 10},
+        {"DECPF|11144477735|A|N|N|N|S|S|20240101|1|N|||||", 19, 11},
+        {"DECPF|11144477735|A|N|N|N|S|S|20240101|1|S||1|||", 19, 13},
+        {"DECPF|11144477735|A|N|N|N|S|S|20240101|2|N||0|||", 19, 13},
+        {"DECPF|11144477735|A|N|N|N|S|S|||N||1|||", 19, 9},
+        {"DECPF|11144477735|A|N|N|N|S|S|20240101||N||1|||", 19, 10},
+        {"DECPF|11144477735|A|N|N|N|S|S|20240101|1|N||1|||", 19, 11},
+        {"DECPF|11144477735|A|N|N|N|S|S|20240101|1|S|||||", 0, 0},
+        {"DECPF|11144477735|A|N|N|N|S|S|20240101|2|N|||||", 0, 0},
+        {"DECPF|11144477735|A|N|N|N|S|S|20240101|2|S|20240101||11144477735|B|", 0, 0},
+        {"DECPF|11144477735|A|N|N|N|S|N|20240101|1|N|||||", 0, 0},
+        {"DECPF|11144477735|A|N|N|N|S|N||1|S||0|||", 0, 0},
+        {"DECPF|11144477735|A|N|N|N|S|N|||S|20240101|1|11144477735|B|", 0, 0},
+    };
+    for (unsigned i = 0; i < sizeof c / sizeof *c; i++)
+        expect_head("conditions", NULL, NULL, c[i].line, c[i].number,
+                    c[i].number ? 3 : 4, c[i].field);
+    expect_head("no condition in DECPJ", NULL, NULL,
+                "DECPJ|11222333000181|E|0|11144477735|N|N|N|N|N|S|S|S||", 0, 4, 0);
+    expect_after("21", DECPF, BPF "~" FOURTEEN("RTRT") "~" FOURTEEN("RTRT"), 21, 7, 1);
+    expect_after("21 apart", DECPF, BPF "~RIO|1|A|~" FOURTEEN("RTRT") "~RIO|2|B|", 21, 8, 1);
+    expect_after("seen starts afresh", DECPF, BPF "~RIO|1|A|~BPFDEC|11144477736|A||N|N|~RIO|1|A|"
+                 "~FIMDirf|", 0, 9, 0);
+    expect_after("20", DECPF, "IDREC|0561|~IDREC|0561|", 20, 5, 2);
+    expect_after("20 less", DECPF, "IDREC|0562|~IDREC|0561|", 20, 5, 2);
+    expect_after("3 then 3 passes", DECPF, "IDREC|0561|~IDREC|0562|~FIMDirf|", 0, 6, 0);
+}
+
+/* Every filling of the fields that the conditions name. */
+static void test_every_condition(void)
+{
+    static const char *const f8[] = {"S", "N"}, *const date[] = {"", "20240229"},
+        *const f10[] = {"", "1", "2"}, *const f13[] = {"", "0", "1"};
+    for (unsigned i = 0; i < 2 * 2 * 3 * 2 * 2 * 3; i++) {
+        unsigned a = i % 2, b = i / 2 % 2, c = i / 4 % 3, d = i / 12 % 2, e = i / 24 % 2;
+        unsigned g = i / 48, field = 0;
+        char line[128];
+        sprintf(line, "DECPF|11144477735|A|N|N|N|S|%s|%s|%s|%s|%s|%s|||", f8[a], date[b],
+                f10[c], f8[d], date[e], f13[g]);
+        if (a == 0)
+            field = b == 0 ? 9 : c == 0 ? 10 : c == 1 && d == 1 ? 11 : g > 0 ? 13 : 0;
+        expect_head("every condition", NULL, NULL, line, field ? 19 : 0, field ? 3 : 4, field);
+    }
+}
+
+static void test_rooms(void)
+{
+    text t = desk_example();
+    for (size_t room = 0; room < 6; room++)
+        expect_room("7", &t, room, 7, (uint32_t)room + 1, 0);
+    expect_room("room enough", &t, 6, 0, 6, 0);
+    is_true(plain_check_room(t.bytes, t.len, SIZE_MAX).number == 0, "greatest room", 0, 0);
+    uint32_t table[24];
+    for (size_t numbers = 0; numbers < 24; numbers++) {
+        plain_answer a = plain_check(t.bytes, t.len, table, numbers);
+        is_true(a.number == 7 && a.entries == numbers / 4, "whole entries", numbers, a.number);
+    }
+    drop(&t);
+    is_true(plain_check(NULL, 0, NULL, 0).number == 1, "nothing at all", 0, 0);
+}
+
+/* A file of many lines: a head, then SCP lines. */
+static text many_lines(uint32_t lines)
+{
+    text t = head(DECPF);
+    char line[64];
+    for (uint32_t n = 4; n <= lines; n++) {
+        snprintf(line, sizeof line, "SCP|%014u|A|", n);
+        add_line(&t, line);
+    }
+    return t;
+}
+
+static void expect_big(const char *what, const text *t, size_t room, uint32_t number,
+                       uint32_t line)
+{
+    plain_answer a = run_plain(t->bytes, t->len, room, NULL);
+    is_true(a.number == number && a.line == line && a.field == 0, what, a.number, a.line);
+}
+
+static void test_many_lines(void)
+{
+    text t = many_lines(65535);
+    char longest[1101];
+    memset(longest, 'A', 1100);
+    longest[1100] = 0;
+    add_line(&t, "FIMDirf|");
+    expect_big("65,536 lines", &t, 65536, 0, 65536);
+    expect_big("7 at the last line", &t, 65535, 7, 65536);
+    add(&t, "x");
+    expect_big("2 before 3", &t, 65536, 2, 65537);
+    drop(&t);
+    t = many_lines(65536);
+    expect_big("1 before 3", &t, 70000, 1, 65537);
+    add_line(&t, "FIMDirf|");
+    expect_big("3", &t, 70000, 3, 65537);
+    expect_big("7 before line 65,537 begins", &t, 65535, 7, 65536);
+    expect_big("3 and no room", &t, 65536, 3, 65537);
+    t.len -= 10;
+    add(&t, "x");
+    expect_big("3 before 5", &t, 70000, 3, 65537);
+    t.len -= 1;
+    add(&t, "\n");
+    expect_big("3 before 6", &t, 70000, 3, 65537);
+    add(&t, longest);
+    expect_big("3 before 4", &t, 70000, 3, 65537);
+    drop(&t);
+}
+
+/* ---- the order of the numbers, two faults in one line ---- */
+
+static void test_order_of_lines(void)
+{
+    char longest[1200];
+    memset(longest, 'A', sizeof longest);
+    longest[1025] = 0;
+    text t = desk_example();
+    size_t len = t.len;
+    const char *const tails[] = {"\r", "\n", "x", "\r\n", "INFPC|\r\n", longest};
+    for (unsigned i = 0; i < 6; i++) {
+        t.len = len;
+        add(&t, tails[i]);
+        expect("2 before all", &t, 2, 7, 0);
+        expect_room("2 before 7", &t, 6, 2, 7, 0);
+    }
+    drop(&t);
+    expect_bytes("4 before 5", longest, 4, 1, 0);
+    longest[1025] = '\n';
+    longest[1026] = 0;
+    expect_bytes("4 before 6", longest, 4, 1, 0);
+    expect_bytes("5 before 8", "xx", 5, 1, 0);
+    expect_bytes("5 before 9", "xx|\r", 5, 1, 0);
+    expect_bytes("6 before 8", "xx\n", 6, 1, 0);
+    expect_bytes("6 before 9", "xx|\n", 6, 1, 0);
+    expect_bytes("8 before 9", "xx\r\n", 8, 1, 0);
+    expect_bytes("8 before 10", "INFPC\r\n", 8, 1, 0);
+    expect_bytes("8 before 11", "Dirf\r\n", 8, 1, 0);
+    expect_bytes("8 before 12", "RESPO|x\r\n", 8, 1, 0);
+    expect_bytes("9 before 12 and 11", "xx||\r\n", 9, 1, 1);
+    expect_bytes("10 before 12 and 11", "INFPC||\r\n", 10, 1, 1);
+    expect_bytes("10 before 12", "VPEIM|11222333000181|A|\r\n", 10, 1, 1);
+    expect_bytes("12 before 11", "RESPO|\r\n", 12, 1, 1);
+    expect_bytes("12 before 13", "IDREC||\r\n", 12, 1, 1);
+    expect_bytes("12 FIMDirf at line 1", "FIMDirf|\r\n", 12, 1, 1);
+    expect_bytes("12 FIMDirf at line 2", DIRF_LINE "\r\nFIMDirf|\r\n", 12, 2, 1);
+    expect_bytes("12 FIMDirf at line 3", DIRF_LINE "\r\n" RESPO_LINE "\r\nFIMDirf|\r\n", 12, 3, 1);
+}
+
+static void test_order_in_line_one(void)
+{
+    expect_bytes("11 before 13", "Dirf|||||\r\n", 11, 1, 0);
+    expect_bytes("11 before 18", "Dirf|2024|2024|N||R6GP3ZA||\r\n", 11, 1, 0);
+    expect_bytes("lowest field first", "Dirf|2024||X|1|Z|\r\n", 18, 1, 2);
+    expect_bytes("13 in the first field", "Dirf||2023|X|1|Z|\r\n", 13, 1, 2);
+}
+
+static void test_order_of_fields(void)
+{
+    expect_after("12 before 11 under DECPF", DECPF, "PROC|", 12, 4, 1);
+    expect_after("12 before 20", DECPF, "RRA|1||||||~SCP|11222333000181|A|~RRA|1||||||", 12, 6, 1);
+    expect_after("14 before 15", DECPJ, "IDREC|X|", 14, 4, 2);
+    expect_after("14 before 16", DECPJ, "PROC|1|7||||0X|", 14, 4, 7);
+    expect_after("14 before 17", DECPJ, BPF "~BPFDEC|11144477736|A|2023022X|N|N|", 14, 6, 4);
+    expect_after("14 before 18", DECPJ, "PROC|X|7|||||", 14, 4, 2);
+    expect_after("15 before 16", DECPJ, "PROC|1|7||||01234567890123|", 15, 4, 7);
+    expect_after("15 before 17", DECPJ, BPF "~BPFDEC|11144477736|A|2023022|N|N|", 15, 6, 4);
+    expect_after("15 before 18", DECPJ, "PROC|99|7|||||", 15, 4, 2);
+    expect_head("15 before 16 in DDD", NULL, "RESPO|11144477735|A|0|33334444||||", NULL, 15, 2, 4);
+    expect_head("15 before 16 in DDD", NULL, "RESPO|11144477735|A|011|33334444||||", NULL, 15, 2, 4);
+    expect_head("15 before 19", NULL, NULL, "DECPF|11144477735|A|N|N|N|S|S|||N||||"
+                "1234567890123456789012345678901234567890123456789012345678901|", 15, 3, 15);
+    expect_head("18 before 19", NULL, NULL, "DECPF|11144477735|A|N|N|N|S|S|||N||2|||", 18, 3, 13);
+    expect_head("13 before 19", NULL, NULL, "DECPF|11144477735|A|N|N|N|S|S||||||||", 13, 3, 11);
+    expect_after("11 before 21", DECPF, BPF "~RIO|1|A|~RIO|1|", 11, 7, 0);
+    expect_after("13 before 21", DECPF, BPF "~RIO|1|A|~RIO||A|", 13, 7, 2);
+    expect_after("16 before 21", DECPF, BPF "~RIO|1|A|~RIO|0|A|", 16, 7, 2);
+    expect_after("13 before 20", DECPF, BPF "~BPFDEC|11144477734||||N|", 13, 6, 3);
+    expect_after("15 before 20", DECPF, BPF "~BPFDEC|1114447773|A||N|N|", 15, 6, 2);
+    expect_after("12 before 21", DECPF, BPF "~RIO|1|A|~IDREC|0562|~RIO|1|A|", 12, 8, 1);
+}
+
+static void test_seven_is_last(void)
+{
+    struct { const char *line; uint32_t number, field; } c[] = {
+        {"", 8, 0}, {"xx|", 9, 1}, {"INF|", 10, 1}, {"FCI|", 12, 1}, {"RIO|", 11, 0},
+        {"RIAP|X|||||||||||||", 14, 2}, {"RIAP|00000000000000|||||||||||||", 15, 2},
+        {"RIAP|||0|||||||||||", 16, 4}, {"RIO||A|", 13, 2}, {"RIO|2|B|", 21, 1},
+        {"BPFDEC|11144477735|A||N|N|", 20, 2}, {"BPFDEC|11144477736|A|20241301|N|N|", 17, 4},
+        {"BPFDEC|11144477736|A||X|N|", 18, 5}, {"BPFDEC|11144477736|A||N|N|", 7, 0},
+        {"FIMDirf|", 7, 0}, {"RIAP||||||||||||||", 7, 0},
+    };
+    for (unsigned i = 0; i < sizeof c / sizeof *c; i++) {
+        text t = head(DECPF);
+        add_line(&t, "IDREC|0561|");
+        add_line(&t, "BPFDEC|11144477735|A||N|N|");
+        add_line(&t, "RIO|1|A|");
+        add_line(&t, c[i].line);
+        expect_room("7 last", &t, 6, c[i].number, 7, c[i].field);
+        drop(&t);
+    }
+    expect_bytes("1 with no room", "", 1, 1, 0);
+    text t = head(DECPF);
+    expect_room("1 before 7", &t, 3, 1, 4, 0);
+    add(&t, "x");
+    expect_room("5 before 7", &t, 3, 5, 4, 0);
+    drop(&t);
+    t = (text){0};
+    add_line(&t, "Dirf|2025|2024|N||R6GP3Z|");
+    expect_room("15 before 7", &t, 0, 15, 1, 6);
+    drop(&t);
+    t = head(DECPF);
+    t.len = 72;
+    add_line(&t, "DECPF|11144477735|A|N|N|N|S|S|||N|||||");
+    expect_room("19 before 7", &t, 2, 19, 3, 9);
+    drop(&t);
+}
+
+/* ---- good contents for every field ---- */
+
+/* A good content of field f, with room for 150 bytes and a 0. */
+static void good_field(unsigned kind, unsigned f, unsigned serial, char *out)
+{
+    plain_row r = plain_field_row(kind, f);
+    const char *name = plain_name(kind);
+    if (kind == DECPF && f == 8)
+        strcpy(out, "N");
+    else if ((strcmp(name, "PROC") == 0 || strcmp(name, "RRA") == 0) && f == 3)
+        sprintf(out, "%08u", serial);
+    else if (r.values != NULL)
+        sprintf(out, "%.*s", (int)strcspn(r.values, ","), r.values);
+    else if (r.format == 'D')
+        strcpy(out, "20240229");
+    else if (r.ddd)
+        strcpy(out, "11");
+    else if (r.telephone)
+        strcpy(out, "33334444");
+    else if (r.cpf_or_cnpj)
+        strcpy(out, "00000000191");
+    else if (r.format == 'N' && r.fixed)
+        sprintf(out, "%0*u", (int)r.size, serial);
+    else
+        strcpy(out, r.format == 'N' ? "1" : "A");
+}
+
+static void good_line(unsigned kind, unsigned serial, char *out)
+{
+    out[0] = 0;
+    for (unsigned f = 1; f <= plain_fields(kind); f++) {
+        char field[160];
+        good_field(kind, f, serial, field);
+        strcat(out, field);
+        strcat(out, "|");
+    }
+}
+
+/* Cuts a text at its bars and gives it to the line writer. */
+static plain_written write_fields(unsigned kind, const char *joined, uint8_t *out, size_t room)
+{
+    uint8_t contents[2048];
+    size_t lengths[64], fields = 0, len = 0;
+    for (const char *s = joined; *s; s += strcspn(s, "|") + 1) {
+        lengths[fields] = strcspn(s, "|");
+        memcpy(contents + len, s, lengths[fields]);
+        len += lengths[fields++];
+    }
+    uint8_t *c = exact_copy(contents, len);
+    size_t *l = exact_copy(lengths, fields * sizeof *lengths);
+    plain_written w = plain_write_line(kind, c, len, l, fields, out, room);
+    free(c);
+    free(l);
+    if (w.number < 32)
+        given[w.number]++;
+    return w;
+}
+
+/* ---- the tree ---- */
+
+static unsigned named(const char *name)
+{
+    for (unsigned k = 1; k <= plain_kinds(); k++)
+        if (strcmp(plain_name(k), name) == 0)
+            return k;
+    return 0;
+}
+
+/* A file that runs down a path of names; serial 1 for each of them. */
+static text path_file(unsigned declarant, const char *path, uint32_t *lines)
+{
+    text t = head(declarant);
+    char line[512], name[16];
+    int used;
+    *lines = 3;
+    for (const char *s = path; sscanf(s, "%15s%n", name, &used) == 1; s += used) {
+        good_line(named(name), 1, line);
+        add_line(&t, line);
+        ++*lines;
+    }
+    return t;
+}
+
+static int holds(const char *list, const char *name)
+{
+    char word[16];
+    int used;
+    for (const char *s = list; sscanf(s, "%15s%n", word, &used) == 1; s += used)
+        if (strcmp(word, name) == 0)
+            return 1;
+    return 0;
+}
+
+/* After a path, exactly the named kinds and the beneficiary's values may stand. */
+static void test_path(unsigned declarant, const char *path, const char *beneficiary,
+                      const char *may)
+{
+    uint32_t lines;
+    text t = path_file(declarant, path, &lines);
+    size_t len = t.len;
+    for (unsigned kind = 1; kind <= plain_kinds(); kind++) {
+        char line[512];
+        const char *name = plain_name(kind);
+        int value = plain_below(declarant, named(beneficiary), kind);
+        t.len = len;
+        good_line(kind, 2, line);
+        add_line(&t, plain_is_base(kind) ? line : strcat(strcpy(line, name), "|"));
+        if (!plain_is_base(kind))
+            expect("left for later", &t, 10, lines + 1, 1);
+        else if (!holds(may, name) && !value)
+            expect(name, &t, 12, lines + 1, 1);
+        else if (strcmp(name, "FIMDirf") == 0)
+            expect(name, &t, 0, lines + 1, 0);
+        else
+            expect(name, &t, value && holds(path, name) ? 21 : 1,
+                   lines + (value && holds(path, name) ? 1 : 2),
+                   value && holds(path, name));
+    }
+    drop(&t);
+}
+
+static void test_tree_decpf(void)
+{
+    unsigned d = DECPF;
+    test_path(d, "", "", "IDREC RRA SCP FIMDirf");
+    test_path(d, "IDREC", "", "IDREC BPFDEC BPJDEC RRA SCP FIMDirf");
+    test_path(d, "IDREC BPFDEC", "BPFDEC", "IDREC BPFDEC BPJDEC RRA SCP FIMDirf");
+    test_path(d, "IDREC BPFDEC RTRT", "BPFDEC", "IDREC BPFDEC BPJDEC RRA SCP FIMDirf");
+    test_path(d, "IDREC BPFDEC RIO RTRT", "BPFDEC", "IDREC BPFDEC BPJDEC RRA SCP FIMDirf");
+    test_path(d, "IDREC BPJDEC", "BPJDEC", "IDREC BPJDEC RRA SCP FIMDirf");
+    test_path(d, "IDREC BPFDEC BPJDEC", "BPJDEC", "IDREC BPJDEC RRA SCP FIMDirf");
+    test_path(d, "IDREC BPJDEC RTIRF", "BPJDEC", "IDREC BPJDEC RRA SCP FIMDirf");
+    test_path(d, "RRA", "", "IDREC RRA SCP FIMDirf");
+    test_path(d, "IDREC BPFDEC RRA", "", "IDREC RRA SCP FIMDirf");
+    test_path(d, "RRA IDREC", "", "IDREC BPFRRA RRA SCP FIMDirf");
+    test_path(d, "RRA IDREC BPFRRA", "BPFRRA", "IDREC BPFRRA RRA SCP FIMDirf");
+    test_path(d, "RRA IDREC BPFRRA QTMESES", "BPFRRA", "IDREC BPFRRA RRA SCP FIMDirf");
+    test_path(d, "SCP", "", "SCP BPFSCP BPJSCP FIMDirf");
+    test_path(d, "IDREC BPFDEC SCP", "", "SCP BPFSCP BPJSCP FIMDirf");
+    test_path(d, "RRA IDREC BPFRRA SCP", "", "SCP BPFSCP BPJSCP FIMDirf");
+    test_path(d, "SCP BPFSCP", "BPFSCP", "SCP BPFSCP BPJSCP FIMDirf");
+    test_path(d, "SCP BPFSCP RISCP", "BPFSCP", "SCP BPFSCP BPJSCP FIMDirf");
+    test_path(d, "SCP BPJSCP", "BPJSCP", "SCP BPJSCP FIMDirf");
+    test_path(d, "SCP BPJSCP RISCP", "BPJSCP", "SCP BPJSCP FIMDirf");
+}
+
+static void test_tree_decpj(void)
+{
+    unsigned d = DECPJ;
+    test_path(d, "", "", "IDREC FCI PROC RRA SCP FIMDirf");
+    test_path(d, "IDREC", "", "IDREC BPFDEC BPJDEC FCI PROC RRA SCP FIMDirf");
+    test_path(d, "IDREC BPFDEC", "BPFDEC", "IDREC BPFDEC BPJDEC FCI PROC RRA SCP FIMDirf");
+    test_path(d, "IDREC BPFDEC RIMOG", "BPFDEC", "IDREC BPFDEC BPJDEC FCI PROC RRA SCP FIMDirf");
+    test_path(d, "IDREC BPJDEC", "BPJDEC", "IDREC BPJDEC FCI PROC RRA SCP FIMDirf");
+    test_path(d, "FCI", "", "IDREC FCI PROC RRA SCP FIMDirf");
+    test_path(d, "FCI IDREC", "", "IDREC BPFFCI BPJFCI FCI PROC RRA SCP FIMDirf");
+    test_path(d, "IDREC FCI IDREC BPFFCI", "BPFFCI",
+              "IDREC BPFFCI BPJFCI FCI PROC RRA SCP FIMDirf");
+    test_path(d, "FCI IDREC BPJFCI", "BPJFCI", "IDREC BPJFCI FCI PROC RRA SCP FIMDirf");
+    test_path(d, "PROC", "", "IDREC PROC RRA SCP FIMDirf");
+    test_path(d, "FCI IDREC PROC", "", "IDREC PROC RRA SCP FIMDirf");
+    test_path(d, "PROC IDREC", "", "IDREC BPFPROC BPJPROC PROC RRA SCP FIMDirf");
+    test_path(d, "PROC IDREC BPFPROC", "BPFPROC", "IDREC BPFPROC BPJPROC PROC RRA SCP FIMDirf");
+    test_path(d, "PROC IDREC BPFPROC RTPA", "BPFPROC",
+              "IDREC BPFPROC BPJPROC PROC RRA SCP FIMDirf");
+    test_path(d, "PROC IDREC BPJPROC", "BPJPROC", "IDREC BPJPROC PROC RRA SCP FIMDirf");
+    test_path(d, "PROC IDREC BPJPROC RIRSR", "BPJPROC", "IDREC BPJPROC PROC RRA SCP FIMDirf");
+    test_path(d, "RRA", "", "IDREC RRA SCP FIMDirf");
+    test_path(d, "RRA IDREC", "", "IDREC BPFRRA RRA SCP FIMDirf");
+    test_path(d, "RRA IDREC BPFRRA", "BPFRRA", "IDREC BPFRRA RRA SCP FIMDirf");
+    test_path(d, "SCP", "", "SCP BPFSCP BPJSCP FIMDirf");
+    test_path(d, "SCP BPFSCP", "BPFSCP", "SCP BPFSCP BPJSCP FIMDirf");
+    test_path(d, "SCP BPJSCP", "BPJSCP", "SCP BPJSCP FIMDirf");
+    test_path(d, "IDREC FCI PROC RRA SCP BPFSCP", "BPFSCP", "SCP BPFSCP BPJSCP FIMDirf");
+}
+
+/* Kinds and parents out of the table, in words. */
+static void test_parents(void)
+{
+    static const char path[] = "IDREC BPFDEC RTRT RIO BPJDEC RTIRF FCI IDREC BPFFCI RIO "
+        "BPJFCI PROC IDREC BPFPROC RTPA BPJPROC RIRSR RRA IDREC BPFRRA QTMESES "
+        "SCP BPFSCP RISCP BPJSCP RISCP FIMDirf";
+    static const uint32_t parents[] = {0, 0, 0, 3, 4, 5, 5, 4, 8, 3, 10, 11, 12, 11, 3, 15,
+        16, 17, 16, 19, 3, 21, 22, 23, 3, 25, 26, 25, 28, 0};
+    uint32_t lines, table[4 * 30];
+    text t = path_file(DECPJ, path, &lines);
+    expect("one of each place", &t, 0, 30, 0);
+    is_true(plain_check(t.bytes, t.len, table, 120).number == 0, "accepted", 0, 0);
+    size_t start = 0;
+    for (uint32_t n = 0; n < 30; n++) {
+        size_t len = strcspn((const char *)t.bytes + start, "\r");
+        is_true(table[4 * n + 3] == parents[n], "parent", n + 1, table[4 * n + 3]);
+        is_true(table[4 * n + 1] == start && table[4 * n + 2] == len, "place", n + 1, start);
+        const char *name = plain_name(table[4 * n]);
+        is_true(strncmp(name, (char *)t.bytes + start, strlen(name)) == 0, "kind", n + 1, 0);
+        start += len + 2;
+    }
+    drop(&t);
+}
+
+/* ---- keys ---- */
+
+static void test_keys(void)
+{
+    unsigned j = DECPJ;
+    expect_after("PROC 2 then 3", j, "PROC|1|9|||||~PROC|2|1|||||~FIMDirf|", 0, 6, 0);
+    expect_after("PROC equal", j, "PROC|1|9|||||~PROC|1|9|||||", 20, 5, 2);
+    expect_after("PROC field 2 less", j, "PROC|2|1|||||~PROC|1|9|||||", 20, 5, 2);
+    expect_after("PROC field 3 less", j, "PROC|1|2|||||~PROC|1|1|||||", 20, 5, 2);
+    expect_after("no numbers", j, "PROC|1|9|||||~PROC|1|10|||||", 20, 5, 2);
+    expect_after("beginning first", j, "PROC|1|1|||||~PROC|1|10|||||~FIMDirf|", 0, 6, 0);
+    expect_after("longer first", j, "PROC|1|10|||||~PROC|1|1|||||", 20, 5, 2);
+    expect_after("zeros count", j, "PROC|1|01|||||~PROC|1|1|||||~FIMDirf|", 0, 6, 0);
+    expect_after("bytes above 127", j, "PROC|1|Z|||||~PROC|1|\xC3|||||~FIMDirf|", 0, 6, 0);
+    expect_after("bytes above 127", j, "PROC|1|\xC3|||||~PROC|1|Z|||||", 20, 5, 2);
+    expect_after("RRA empty least", j, "RRA|1||||||~RRA|1|0|||||~FIMDirf|", 0, 6, 0);
+    expect_after("RRA empty after", j, "RRA|1|0|||||~RRA|1||||||", 20, 5, 2);
+    expect_after("RRA both empty", j, "RRA|1||||||~RRA|1||||||", 20, 5, 2);
+    expect_after("RRA next", j, "RRA|1|9|||||~RRA|2||||||~FIMDirf|", 0, 6, 0);
+    expect_after("FCI", j, "FCI|00000000000002|A|~FCI|00000000000001|A|", 20, 5, 2);
+    expect_after("SCP", j, "SCP|00000000000002|A|~SCP|00000000000002|B|", 20, 5, 2);
+    expect_after("FCI then SCP", j, "FCI|00000000000002|A|~SCP|00000000000001|A|~FIMDirf|", 0, 6, 0);
+    expect_after("fresh in the next IDREC", j, BPF "~IDREC|0562|~BPFDEC|00000000000|A||N|N|"
+                 "~FIMDirf|", 0, 8, 0);
+    expect_after("fresh IDREC in FCI", j, "IDREC|9999|~FCI|00000000000001|A|~IDREC|0001|"
+                 "~FIMDirf|", 0, 7, 0);
+    expect_after("IDREC of two FCI", j, "FCI|00000000000001|A|~IDREC|0002|~FCI|00000000000002|A|"
+                 "~IDREC|0001|~FIMDirf|", 0, 8, 0);
+    expect_after("IDREC past its children", j, "FCI|00000000000001|A|~IDREC|0002|"
+                 "~BPFFCI|00000000001|A||~IDREC|0002|", 20, 7, 2);
+    expect_after("person then firm", j, BPF "~BPJDEC|00000000000000|A|~FIMDirf|", 0, 7, 0);
+    expect_after("key past values", j, BPF "~" FOURTEEN("RTRT") "~BPFDEC|11144477735|A||N|N|",
+                 20, 7, 2);
+    expect_after("BPFRRA by CPF alone", j, "RRA|1||||||~IDREC|1889|~BPFRRA|00000000001|A|X||N|"
+                 "~BPFRRA|00000000001|A|Y||N|", 20, 7, 2);
+    expect_after("CPF keeps its zeros", j, BPF "~BPFDEC|01144477735|A||N|N|", 20, 6, 2);
+    expect_after("SCP beneficiaries afresh", j, "SCP|00000000000001|A|~BPFSCP|00000000002|A||"
+                 "~SCP|00000000000002|A|~BPFSCP|00000000001|A||~FIMDirf|", 0, 8, 0);
+}
+
+/* ---- every field of every row, by the writer and inside a file ---- */
+
+/* A path down to the kind's parent, or NULL for lines 1 to 3. */
+static const char *path_to(unsigned kind, unsigned *declarant)
+{
+    static const char *const paths[] = {"", "IDREC", "IDREC BPFDEC", "FCI IDREC",
+        "FCI IDREC BPFFCI", "PROC IDREC", "PROC IDREC BPFPROC", "RRA IDREC",
+        "RRA IDREC BPFRRA", "SCP", "SCP BPFSCP"};
+    *declarant = DECPJ;
+    for (unsigned i = 0; kind > 4 && i < sizeof paths / sizeof *paths; i++) {
+        uint32_t lines;
+        char line[512];
+        text t = path_file(DECPJ, paths[i], &lines);
+        good_line(kind, 2, line);
+        add_line(&t, line);
+        plain_answer a = plain_check_room(t.bytes, t.len, 100);
+        drop(&t);
+        if (a.number <= 1)
+            return paths[i];
+    }
+    return NULL;
+}
+
+/* The file with one line of the kind given, all fields good but field f. */
+static void test_field_value(unsigned kind, unsigned f, const char *value, uint32_t number)
+{
+    char line[2048] = "", field[160];
+    uint8_t out[2048];
+    uint32_t lines = kind < 4 ? kind - 1 : 2;
+    unsigned d;
+    for (unsigned g = 1; g <= plain_fields(kind); g++) {
+        good_field(kind, g, 2, field);
+        strcat(strcat(line, g == f ? value : field), "|");
+    }
+    plain_written w = write_fields(kind, line, out, sizeof out);
+    is_true(w.number == number && w.field == (number ? f : 0), plain_name(kind), f, w.number);
+    is_true(naive_field(kind, f, (const uint8_t *)value, strlen(value)) == number
+            || number == 19, "slow field", f, number);
+    is_true(number ? w.count == 0 : w.count == strlen(line) + 2, "count", w.count, f);
+    if (!number)
+        is_true(memcmp(out, line, strlen(line)) == 0
+                && memcmp(out + strlen(line), "\r\n", 2) == 0, "line written", kind, f);
+    if (f == 1 && number)
+        return;
+    text t = {0};
+    const char *path = path_to(kind, &d);
+    if (path != NULL)
+        t = path_file(d, path, &lines);
+    else
+        for (uint32_t n = 1; n <= lines; n++)
+            add_line(&t, n == 1 ? DIRF_LINE : RESPO_LINE);
+    add_line(&t, line);
+    if (number || kind == 73)
+        expect(plain_name(kind), &t, number, lines + 1, number ? f : 0);
+    else
+        expect(plain_name(kind), &t, 1, lines + 2, 0);
+    drop(&t);
+}
+
+static char *many(char c, size_t n)
+{
+    static char out[512];
+    memset(out, c, n);
+    out[n] = 0;
+    return out;
+}
+
+static void test_sizes(unsigned kind, unsigned f, plain_row r)
+{
+    char digit = r.format == 'C' ? 'A' : '1';
+    if (r.values != NULL || r.format == 'D') {
+        test_field_value(kind, f, many(digit, r.size + 1u), 15);
+        if (r.size > 1 && r.fixed)
+            test_field_value(kind, f, many(digit, r.size - 1u), 15);
+        return;
+    }
+    for (size_t n = 1; n <= r.size + 2u; n++) {
+        int ok = r.fixed ? n == r.size : n <= r.size;
+        ok = r.telephone ? n == 8 || n == 9 : r.cpf_or_cnpj ? n == 11 || n == 14 : ok;
+        test_field_value(kind, f, many(digit, n), ok ? 0 : 15);
+    }
+}
+
+static void test_wrong_bytes(unsigned kind, unsigned f, plain_row r)
+{
+    static const char bad[] = "/:-. AO+,\x01\x7F\x80\xFF";
+    char good[160];
+    good_field(kind, f, 2, good);
+    for (size_t i = 0; i < strlen(good); i++)
+        for (const char *b = bad; *b; b++) {
+            char changed[160];
+            strcpy(changed, good);
+            changed[i] = *b;
+            if (strcmp(changed, good) == 0)
+                continue;
+            if (r.format != 'C')
+                test_field_value(kind, f, changed, 14);
+            else if (r.values == NULL)
+                test_field_value(kind, f, changed, 0);
+            else
+                test_field_value(kind, f, changed, 18);
+        }
+}
+
+static void test_values(unsigned kind, unsigned f, plain_row r)
+{
+    if (r.size == 1 && r.values != NULL && !(kind == DECPF && (f == 8 || f == 11)))
+        for (int c = 1; c < 256; c++) {
+            char one[2] = {(char)c, 0};
+            int digit = c >= '0' && c <= '9';
+            if (c == '|' || c == '\r' || c == '\n')
+                continue;
+            int listed = c != ',' && strchr(r.values, c) != NULL;
+            test_field_value(kind, f, one, r.format == 'N' && !digit ? 14 : listed ? 0 : 18);
+        }
+    if (r.amount || r.months || r.ddd) {
+        test_field_value(kind, f, "0", r.ddd ? 15 : 16);
+        test_field_value(kind, f, "00", 16);
+        test_field_value(kind, f, "01", 16);
+        test_field_value(kind, f, "10", 0);
+    } else if (r.format == 'N' && !r.fixed && !r.telephone && !r.cpf_or_cnpj) {
+        test_field_value(kind, f, "0", 0);
+        test_field_value(kind, f, "0001", 0);
+    }
+    if (r.format == 'D') {
+        test_field_value(kind, f, "20230229", 17);
+        test_field_value(kind, f, "18991231", 17);
+        test_field_value(kind, f, "21000101", 17);
+        test_field_value(kind, f, "19000101", 0);
+        test_field_value(kind, f, "20991231", 0);
+        test_field_value(kind, f, "00000000", 17);
+    }
+}
+
+static void test_every_row(void)
+{
+    unsigned rows = 0, base = 0;
+    size_t longest = 0;
+    for (unsigned kind = 1; kind <= plain_kinds(); kind++) {
+        size_t length = 0;
+        base += plain_is_base(kind) != 0;
+        for (unsigned f = 1; f <= plain_fields(kind); f++) {
+            plain_row r = plain_field_row(kind, f);
+            rows++;
+            length += (f == 1 ? strlen(plain_name(kind)) : r.size) + 1;
+            is_true(r.size >= 1 && r.size <= 150, "size range", kind, f);
+            test_field_value(kind, f, "", r.obligatory ? 13 : 0);
+            if (f == 1)
+                continue;
+            test_sizes(kind, f, r);
+            test_wrong_bytes(kind, f, r);
+            test_values(kind, f, r);
+        }
+        longest = length > longest ? length : longest;
+    }
+    is_true(plain_kinds() == 73, "73 kinds", plain_kinds(), 0);
+    is_true(base == 56, "56 in the base", base, 0);
+    is_true(rows == 561, "561 rows", rows, 0);
+    is_true(longest == 211, "longest line 211", longest, 0);
+}
+
+/* ---- dates, walked day by day ---- */
+
+static void test_dates(void)
+{
+    static unsigned char exists[2200][16][40];
+    int y = 1900, m = 1, d = 1;
+    while (y < 2100) {
+        int leap = (y % 4 == 0 && y % 100 != 0) || y % 400 == 0;
+        int days = m == 2 ? 28 + leap : 30 + (m + m / 8) % 2;
+        exists[y][m][d] = 1;
+        if (++d > days) {
+            d = 1;
+            m = m % 12 + 1;
+            y += m == 1;
+        }
+    }
+    for (y = 1880; y < 2120; y++)
+        for (m = 0; m < 15; m++)
+            for (d = 0; d < 34; d++) {
+                char line[64];
+                uint8_t out[64];
+                sprintf(line, "BPFFCI|11144477735|A|%04d%02d%02d|", y, m, d);
+                plain_written w = write_fields(49, line, out, 64);
+                is_true(w.number == (exists[y][m][d] ? 0 : 17), "date",
+                        (unsigned long)y * 10000 + (unsigned long)m * 100 + (unsigned long)d,
+                        w.number);
+            }
+}
+
+/* ---- amounts and month counts ---- */
+
+typedef plain_number (*reader)(const uint8_t *, size_t);
+typedef plain_written (*writer)(uint64_t, uint8_t *, size_t);
+
+static void test_number_value(reader read, writer write, uint64_t limit, uint64_t value)
+{
+    char digits[32];
+    size_t len = value ? (size_t)sprintf(digits, "%llu", (unsigned long long)value) : 0;
+    for (size_t room = 0; room <= len + 2; room++) {
+        uint8_t *out = malloc(room ? room : 1);
+        memset(out, 0xEE, room ? room : 1);
+        plain_written w = write(value, out, room);
+        uint32_t number = value > limit ? 15 : room < len ? 24 : 0;
+        size_t count = number ? 0 : len;
+        is_true(w.number == number && w.count == count && w.field == 0, "written", value, room);
+        int ok = count == 0 || memcmp(out, digits, count) == 0;
+        for (size_t i = count; i < room; i++)
+            ok = ok && out[i] == 0xEE;
+        is_true(ok, "bytes written", value, room);
+        given[w.number]++;
+        free(out);
+    }
+    uint8_t *field = exact_copy(digits, len);
+    plain_number n = read(field, len);
+    is_true(n.number == (value > limit ? 15 : 0), "read", value, n.number);
+    is_true(n.value == (value > limit ? 0 : value), "value read", value, n.value);
+    free(field);
+}
+
+static void test_number(reader read, writer write, uint64_t limit, size_t most)
+{
+    static const char *const refused[] = {"0", "00", "01", "X", "1X", "X1", " 1", "1 ", "-1",
+        "+1", "1.0", "0X", "1\x80", "/", ":"};
+    uint64_t power = 1;
+    for (int i = 0; i < 20; i++, power *= 10) {
+        test_number_value(read, write, limit, power);
+        test_number_value(read, write, limit, power - 1);
+        test_number_value(read, write, limit, power + 1);
+    }
+    test_number_value(read, write, limit, UINT64_MAX);
+    test_number_value(read, write, limit, limit);
+    test_number_value(read, write, limit, limit + 1);
+    for (int i = 0; i < 3000; i++)
+        test_number_value(read, write, limit, below_n(1u << (1 + below_n(31))));
+    for (unsigned i = 0; i < sizeof refused / sizeof *refused; i++) {
+        plain_number n = read((const uint8_t *)refused[i], strlen(refused[i]));
+        is_true(n.number == (i < 3 ? 16 : 14) && n.value == 0, "refused", i, n.number);
+    }
+    for (size_t n = most + 1; n < 60; n++) {
+        char *s = many('0', n);
+        is_true(read((uint8_t *)s, n).number == 15, "15 before 16", n, 0);
+        s[n - 1] = 'X';
+        is_true(read((uint8_t *)s, n).number == 14, "14 before 15", n, 0);
+    }
+    is_true(read(NULL, 0).number == 0 && read(NULL, 0).value == 0, "empty", 0, 0);
+    is_true(write(0, NULL, 0).number == 0, "zero", 0, 0);
+    is_true(write(limit + 1, NULL, 0).number == 15, "15 before 24", 0, 0);
+}
+
+/* ---- the field reader ---- */
+
+static void test_one_field(const char *line, size_t len, size_t k, int there, size_t start,
+                           size_t length)
+{
+    uint8_t *copy = exact_copy(line, len);
+    size_t s = 77, l = 77;
+    int t = plain_field(copy, len, k, &s, &l);
+    is_true(t == there && s == start && l == length, "field", k, s);
+    free(copy);
+}
+
+static void test_field_reader(void)
+{
+    test_one_field("", 0, 0, 0, 0, 0);
+    test_one_field("", 0, 1, 0, 0, 0);
+    test_one_field("|", 1, 1, 1, 0, 0);
+    test_one_field("|", 1, 2, 0, 1, 0);
+    test_one_field("A|BC||D", 7, 0, 0, 7, 0);
+    test_one_field("A|BC||D", 7, 1, 1, 0, 1);
+    test_one_field("A|BC||D", 7, 2, 1, 2, 2);
+    test_one_field("A|BC||D", 7, 3, 1, 5, 0);
+    test_one_field("A|BC||D", 7, 4, 0, 7, 0);
+    test_one_field("A|BC||D", 7, SIZE_MAX, 0, 7, 0);
+    test_one_field("no bar", 6, 1, 0, 6, 0);
+    test_one_field("\r\n|\n|", 5, 2, 1, 3, 1);
+    for (int i = 0; i < 3000; i++) {
+        char line[64];
+        size_t len = below_n(64), field = 1, begin = 0;
+        for (size_t j = 0; j < len; j++)
+            line[j] = "|A|1\r"[below_n(5)];
+        for (size_t j = 0; j < len; j++)
+            if (line[j] == '|') {
+                test_one_field(line, len, field++, 1, begin, j - begin);
+                begin = j + 1;
+            }
+        test_one_field(line, len, field, 0, len, 0);
+        test_one_field(line, len, field + 1 + below_n(9), 0, len, 0);
+    }
+}
+
+/* ---- the line writer ---- */
+
+static void expect_written(const char *what, unsigned kind, const char *fields, uint32_t number,
+                           uint32_t field)
+{
+    uint8_t out[512];
+    memset(out, 0xEE, sizeof out);
+    plain_written w = write_fields(kind, fields, out, sizeof out);
+    is_true(w.number == number && w.field == field, what, w.number, w.field);
+    int kept = 1;
+    for (size_t i = w.count; i < sizeof out; i++)
+        kept = kept && out[i] == 0xEE;
+    is_true(kept && (number == 0 || w.count == 0), "output kept", w.count, w.number);
+}
+
+static void test_writer_refusals(void)
+{
+    for (unsigned kind = 0; kind < 100; kind++)
+        if (!plain_is_base(kind))
+            expect_written("22", kind, "", 22, 0);
+    expect_written("22", UINT32_MAX, "Dirf|", 22, 0);
+    expect_written("22 before 11", 20, "INFPC|", 22, 0);
+    expect_written("11", 5, "IDREC|", 11, 0);
+    expect_written("11", 5, "IDREC|0561||", 11, 0);
+    expect_written("11 none", 5, "", 11, 0);
+    expect_written("written", 5, "IDREC|0561|", 0, 0);
+    expect_written("written", 73, "FIMDirf|", 0, 0);
+    expect_written("18 by field 1", 5, "IDREX|0561|", 18, 1);
+    expect_written("18 by case", 73, "FIMDIRF|", 18, 1);
+    expect_written("15 by field 1", 5, "IDRE|0561|", 15, 1);
+    expect_written("13 by field 1", 5, "|0561|", 13, 1);
+    expect_written("14 by field 1", 5, "ID\rEC|0561|", 14, 1);
+    expect_written("14 before 15", 5, "\n|0561|", 14, 1);
+    expect_written("18 one of the others", 7, "RTPO||||||||||||||", 18, 1);
+    expect_written("18 variable 5", 7, "RTIRF||||||||||||||", 18, 1);
+    expect_written("18 variable 5", 7, "R||||||||||||||", 18, 1);
+    expect_written("15 over 5", 7, "RTRTRT||||||||||||||", 15, 1);
+    expect_written("18 variable 6", 40, "RIJMRE|1|", 18, 1);
+    expect_written("15 over 6", 40, "RIL9666|1|", 15, 1);
+    expect_written("written RTRT", 7, "RTRT||||||||||||||", 0, 0);
+    expect_written("14 CR in C", 43, "RIO|1|A\r|", 14, 3);
+    expect_written("14 LF in C", 43, "RIO|1|\nA|", 14, 3);
+    expect_written("14 in N", 43, "RIO|1\r|A|", 14, 2);
+    expect_written("13 in RIO", 43, "RIO||A|", 13, 2);
+    expect_written("19", 3, "DECPF|11144477735|A|N|N|N|S|S|||N|||||", 19, 9);
+    expect_written("19", 3, "DECPF|11144477735|A|N|N|N|S|S|20240101|2|N||1|||", 19, 13);
+    expect_written("18 before 19", 3, "DECPF|11144477735|A|N|N|N|S|S|||N||3|||", 18, 13);
+}
+
+static void test_writer_lengths(void)
+{
+    const uint8_t contents[] = "IDREC0561";
+    const uint8_t barred[] = "RIO1A|B";
+    uint8_t out[64];
+    struct { size_t a, b; uint32_t number, field; } c[] = {
+        {5, 4, 0, 0}, {5, 3, 23, 0}, {5, 5, 23, 0}, {4, 4, 23, 0}, {0, 0, 23, 0},
+        {9, 0, 15, 1}, {0, 9, 13, 1}, {4, 5, 15, 1}, {10, SIZE_MAX, 23, 0},
+        {SIZE_MAX, 10, 23, 0}, {5, SIZE_MAX, 23, 0}, {SIZE_MAX, SIZE_MAX, 23, 0},
+        {SIZE_MAX / 2 + 5, SIZE_MAX / 2 + 6, 23, 0},
+    };
+    for (unsigned i = 0; i < sizeof c / sizeof *c; i++) {
+        size_t lengths[2] = {c[i].a, c[i].b};
+        plain_written w = plain_write_line(5, contents, 9, lengths, 2, out, 64);
+        is_true(w.number == c[i].number && w.field == c[i].field, "lengths", i, w.number);
+        given[w.number]++;
+    }
+    size_t bar[3] = {3, 1, 3};
+    plain_written w = plain_write_line(43, barred, 7, bar, 3, out, 64);
+    is_true(w.number == 14 && w.field == 3, "14 by a bar", w.number, w.field);
+    size_t wraps[3] = {3, SIZE_MAX, 3};
+    w = plain_write_line(43, barred, 5, wraps, 3, out, 64);
+    is_true(w.number == 23, "a sum that wraps", w.number, w.field);
+    size_t none[2] = {0, 0};
+    w = plain_write_line(5, NULL, 0, none, 2, NULL, 0);
+    is_true(w.number == 13 && w.field == 1, "all empty", w.number, w.field);
+    w = plain_write_line(5, NULL, 0, NULL, 0, NULL, 0);
+    is_true(w.number == 11, "no lengths", w.number, w.field);
+}
+
+/* Every room below the line is 24; the refused output stays untouched. */
+static void test_writer_rooms(void)
+{
+    for (unsigned kind = 1; kind <= plain_kinds(); kind++) {
+        char line[512];
+        if (!plain_is_base(kind))
+            continue;
+        good_line(kind, 7, line);
+        size_t len = strlen(line) + 2;
+        for (size_t room = 0; room <= len + 2; room++) {
+            uint8_t *out = malloc(room ? room : 1);
+            memset(out, 0xEE, room ? room : 1);
+            plain_written w = write_fields(kind, line, out, room);
+            is_true(w.number == (room < len ? 24 : 0) && w.field == 0, "24", kind, room);
+            is_true(w.count == (room < len ? 0 : len), "24 count", kind, room);
+            int kept = 1;
+            for (size_t i = w.count; i < room; i++)
+                kept = kept && out[i] == 0xEE;
+            is_true(kept, "24 untouched", kind, room);
+            free(out);
+        }
+    }
+}
+
+/* ---- helpers out of range ---- */
+
+static void test_helpers(void)
+{
+    is_true(plain_name(0) == NULL && plain_name(74) == NULL, "no name", 0, 0);
+    is_true(!plain_is_base(0) && !plain_is_base(74) && !plain_is_base(~0u), "no base", 0, 0);
+    is_true(plain_fields(0) == 0 && plain_fields(20) == 0 && plain_fields(99) == 0, "none", 0, 0);
+    is_true(plain_field_row(1, 0).size == 0 && plain_field_row(1, 7).size == 0, "no row", 0, 0);
+    is_true(plain_field_row(20, 1).size == 0 && plain_field_row(~0u, ~0u).size == 0, "none", 0, 0);
+    is_true(!plain_below(3, ~0u, 5) && !plain_below(3, 3, ~0u) && !plain_below(~0u, 3, 5),
+            "below nothing", 0, 0);
+    is_true(strcmp(plain_name(1), "Dirf") == 0 && strcmp(plain_name(73), "FIMDirf") == 0
+            && strcmp(plain_name(7), "RTRT") == 0 && strcmp(plain_name(5), "IDREC") == 0,
+            "names", 0, 0);
+    is_true(plain_below(4, 6, named("RIMOG")) && !plain_below(3, 6, named("RIMOG")), "RIMOG", 0, 0);
+    is_true(!plain_below(4, 6, named("RTPA")) && plain_below(4, 52, named("RTPA")), "RTPA", 0, 0);
+}
+
+/* ---- random files, good ones and changed ones ---- */
+
+static unsigned serial;
+
+/* A good line with optional fields often empty and sizes often full. */
+static void random_line(text *t, unsigned kind, int changed)
+{
+    static const char *const odd[] = {"", "0", "00", "1", "2", "9", "S", "N", "X", "01", "2025",
+        "20240229", "20230229", "11144477735", "99999999999999", "A|", "A", "000", "123456789",
+        "12345678", "1234567", "\xC3\x87", "2,3", ",", "S,N"};
+    for (unsigned f = 1; f <= plain_fields(kind); f++) {
+        char field[160];
+        plain_row r = plain_field_row(kind, f);
+        good_field(kind, f, serial, field);
+        int key = kind == named("RRA") && f == 3;
+        if (f > 1 && !r.obligatory && !key && below_n(2))
+            field[0] = 0;
+        else if (f > 2 && r.values == NULL && r.format == 'C' && r.size > 20 && below_n(3) == 0)
+            strcpy(field, many("AZ \x80\xFF"[below_n(5)], 1 + below_n(r.size)));
+        else if (r.amount || r.months)
+            sprintf(field, "%u", 1 + below_n(r.months ? 9999 : 2000000000));
+        if (changed && below_n(60) == 0)
+            strcpy(field, odd[below_n(sizeof odd / sizeof *odd)]);
+        add(t, field);
+        add(t, "|");
+    }
+    add(t, "\r\n");
+    serial++;
+}
+
+static void random_values(text *t, unsigned d, unsigned beneficiary, int changed)
+{
+    unsigned from = below_n(73), n = below_n(4) ? below_n(8) : 73;
+    for (unsigned i = 0; i < 73 && n > 0; i++) {
+        unsigned kind = 1 + (from + i * 5) % 73;
+        if (plain_below(d, beneficiary, kind) && below_n(3)) {
+            random_line(t, kind, changed);
+            n--;
+        }
+    }
+}
+
+static void random_beneficiaries(text *t, unsigned d, const char *bpf, const char *bpj, int changed)
+{
+    for (unsigned n = below_n(3); n > 0; n--) {
+        random_line(t, named(bpf), changed);
+        random_values(t, d, named(bpf), changed);
+    }
+    for (unsigned n = bpj ? below_n(3) : 0; n > 0; n--) {
+        random_line(t, named(bpj), changed);
+        random_values(t, d, named(bpj), changed);
+    }
+}
+
+static void random_codes(text *t, unsigned d, const char *bpf, const char *bpj, int changed)
+{
+    for (unsigned n = below_n(3); n > 0; n--) {
+        random_line(t, 5, changed);
+        random_beneficiaries(t, d, bpf, bpj, changed);
+    }
+}
+
+static text random_file(int changed)
+{
+    static const char *const blocks[][3] = {
+        {"FCI", "BPFFCI", "BPJFCI"}, {"PROC", "BPFPROC", "BPJPROC"}, {"RRA", "BPFRRA", NULL}};
+    unsigned d = DECPF + below_n(2);
+    text t = {0};
+    serial = 100;
+    random_line(&t, 1, changed);
+    random_line(&t, 2, changed);
+    random_line(&t, d, changed);
+    random_codes(&t, d, "BPFDEC", "BPJDEC", changed);
+    for (unsigned b = d == DECPJ ? 0 : 2; b < 3; b++)
+        for (unsigned n = below_n(3); n > 0; n--) {
+            random_line(&t, named(blocks[b][0]), changed);
+            random_codes(&t, d, blocks[b][1], blocks[b][2], changed);
+        }
+    for (unsigned n = below_n(3); n > 0; n--) {
+        random_line(&t, named("SCP"), changed);
+        random_beneficiaries(&t, d, "BPFSCP", "BPJSCP", changed);
+    }
+    random_line(&t, 73, changed);
+    return t;
+}
+
+/* Start and end, CR LF included, of a random line of the file. */
+static void random_span(const text *t, size_t *start, size_t *end)
+{
+    size_t at = below_n((uint32_t)t->len + 1);
+    while (at > 0 && t->bytes[at - 1] != '\n')
+        at--;
+    *start = at;
+    while (at < t->len && t->bytes[at] != '\n')
+        at++;
+    *end = at < t->len ? at + 1 : at;
+}
+
+static void splice(text *t, size_t start, size_t end, const void *with, size_t len)
+{
+    text out = {0};
+    add_bytes(&out, t->bytes, start);
+    add_bytes(&out, with, len);
+    add_bytes(&out, t->bytes + end, t->len - end);
+    drop(t);
+    *t = out;
+}
+
+/* One change of bytes or of whole lines. */
+static void change(text *t)
+{
+    static const char bytes[] = "|0123456789SNAX\r\n \x80RDIBPJF";
+    size_t a, b, c, d;
+    char one = bytes[below_n(sizeof bytes - 1)];
+    if (t->len == 0)
+        return;
+    size_t at = below_n((uint32_t)t->len);
+    random_span(t, &a, &b);
+    random_span(t, &c, &d);
+    uint8_t *line = exact_copy(t->bytes + a, b - a);
+    switch (below_n(8)) {
+    case 0: t->bytes[at] = (uint8_t)one; break;
+    case 1: splice(t, at, at, &one, 1); break;
+    case 2: splice(t, at, at + 1, NULL, 0); break;
+    case 3: splice(t, a, b, NULL, 0); break;
+    case 4: splice(t, b, b, line, b - a); break;
+    case 5: splice(t, c, c, line, b - a); break;
+    case 6: splice(t, c, d, line, b - a); break;
+    default: t->bytes[at] = (uint8_t)below_n(256); break;
+    }
+    free(line);
+}
+
+static void test_random_files(unsigned rounds)
+{
+    for (unsigned i = 0; i < rounds; i++) {
+        text t = random_file(0);
+        plain_answer a = run(t.bytes, t.len, 10000);
+        is_true(a.number == 0 && a.entries == count_lf(t.bytes, t.len), "good file",
+                a.number * 1000 + a.field, a.line);
+        size_t room = below_n((uint32_t)a.entries);
+        a = run(t.bytes, t.len, room);
+        is_true(a.number == 7 && a.entries == room, "less room", a.number, room);
+        for (unsigned n = 1 + below_n(3); n > 0; n--)
+            change(&t);
+        run(t.bytes, t.len, below_n(4) ? 10000 : below_n(40));
+        drop(&t);
+        t = random_file(1);
+        run(t.bytes, t.len, below_n(4) ? 10000 : below_n(40));
+        drop(&t);
+    }
+}
+
+static void test_cuts(unsigned rounds)
+{
+    for (unsigned i = 0; i < rounds; i++) {
+        text t = random_file(0);
+        for (size_t len = 0; len < t.len; len++) {
+            plain_answer a = run_plain(t.bytes, len, 4000, NULL);
+            size_t whole = count_lf(t.bytes, len);
+            int at_end = len == 0 || t.bytes[len - 1] == '\n';
+            is_true(equal(a, (plain_answer){at_end ? 1 : 5, (uint32_t)whole + 1, 0, whole}),
+                    "cut", a.number, len);
+        }
+        drop(&t);
+    }
+}
+
+static void test_random_bytes(unsigned rounds)
+{
+    static const char some[] = "|\r\n012SNDirfRESPOIDREC";
+    for (unsigned i = 0; i < rounds; i++) {
+        uint8_t bytes[1500];
+        size_t len = below_n(below_n(10) ? 60 : 1500);
+        int narrow = (int)below_n(3);
+        for (size_t j = 0; j < len; j++)
+            bytes[j] = narrow ? (uint8_t)some[below_n(sizeof some - 1)] : (uint8_t)below_n(256);
+        run(bytes, len, below_n(6));
+        text t = head(DECPF + below_n(2));
+        add_bytes(&t, bytes, len);
+        run(t.bytes, t.len, below_n(3) ? 100 : below_n(8));
+        drop(&t);
+        plain_number n = plain_read_amount(bytes, len);
+        is_true(n.number == 0 || (n.number >= 14 && n.number <= 16 && n.value == 0), "reader", 0, 0);
+    }
+}
+
+/* The writer takes any bytes and lengths; what it writes, the fields bear out. */
+static void test_random_writes(unsigned rounds)
+{
+    for (unsigned i = 0; i < rounds; i++) {
+        unsigned kind = 1 + below_n(73), n = below_n(8) ? plain_fields(kind) : below_n(16);
+        uint8_t contents[64], out[100];
+        size_t lengths[16], sum = 0;
+        for (unsigned f = 0; f < n; f++)
+            sum += lengths[f] = below_n(4);
+        if (sum > sizeof contents)
+            continue;
+        for (size_t j = 0; j < sum; j++)
+            contents[j] = (uint8_t)"|\r\n0129SNA"[below_n(10)];
+        uint8_t *c = exact_copy(contents, sum);
+        plain_written w = plain_write_line(kind, c, sum, lengths, n, out, below_n(100));
+        size_t at = 0;
+        uint32_t number = plain_is_base(kind) ? n == plain_fields(kind) ? 0 : 11 : 22, field = 0;
+        for (unsigned f = 1; number == 0 && f <= n; at += lengths[f++ - 1])
+            if ((number = naive_field(kind, f, c + at, lengths[f - 1])) != 0)
+                field = f;
+        is_true(number == 0 || (w.number == number && w.field == field && w.count == 0),
+                "random write", w.number, number);
+        free(c);
+    }
+}
+
+/* Every number has to come up; tells how often each did. */
+static void test_numbers_seen(void)
+{
+    for (unsigned n = 0; n <= 24; n++) {
+        is_true(given[n] > 0, "number seen", n, given[n]);
+        printf("number %2u seen %lu times\n", n, given[n]);
+    }
+}
+
+int main(int argc, char **argv)
+{
+    unsigned rounds = argc > 1 ? (unsigned)atoi(argv[1]) : 20000;
+    if (argc > 2)
+        rng ^= (uint64_t)atoll(argv[2]) * 2654435761u;
+    test_marked();
+    test_lines_alone();
+    test_records_alone();
+    test_conditions_alone();
+    test_every_condition();
+    test_rooms();
+    test_many_lines();
+    test_order_of_lines();
+    test_order_in_line_one();
+    test_order_of_fields();
+    test_seven_is_last();
+    test_tree_decpf();
+    test_tree_decpj();
+    test_parents();
+    test_keys();
+    test_every_row();
+    test_dates();
+    test_number(plain_read_amount, plain_write_amount, 9999999999999u, 13);
+    test_number(plain_read_months, plain_write_months, 9999u, 4);
+    test_field_reader();
+    test_writer_refusals();
+    test_writer_lengths();
+    test_writer_rooms();
+    test_helpers();
+    test_random_files(rounds);
+    test_cuts(rounds / 1000 + 2);
+    test_random_bytes(rounds);
+    test_random_writes(rounds * 5);
+    test_numbers_seen();
+    printf("tests: %lu cases, %lu wrong\n", cases, wrong);
+    return wrong != 0;
+}

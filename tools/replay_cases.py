@@ -1,0 +1,814 @@
+#!/usr/bin/env python3
+"""Writes crates/replay/stdin, a run of cases, and crates/replay/stdout, what document 01 demands for each.
+
+Nothing here asks the program. Of a file the number, the line and the field are written beside it, and the indents of its lines say which
+line is the parent of which. Of a record's fields ROWS has what the sources print, and each case says what it breaks. The layout of a case
+is in docs/REPLAY.md. Run it from anywhere; it writes the same bytes every time.
+"""
+import os
+import struct
+
+ROOT = os.path.dirname(os.path.dirname(os.path.abspath(__file__)))
+END = "\r\n"
+CPF, CNPJ = "11144477735", "11222333000181"
+
+# list 2.2 of document 004, DECPF before DECPJ
+NAMES = """
+Dirf RESPO DECPF DECPJ IDREC BPFDEC RTRT RTPO RTDP RTDS RTIRF CJAC CJAA ESRT ESPO ESDP ESDS ESIR ESDJ INFPC RTPP RTFA RTSP RTEP
+ESPP ESFA ESSP ESEP INFPA RTPA ESPA RIDAC RIIRP RIAP RIMOG RIP65 RIBMR RICAP RIRPC RIL96 RIPTS RIJMRE RIO BPJDEC VPEIM RIMUN RISEN
+FCI BPFFCI BPJFCI PROC BPFPROC RIRSR BPJPROC RRA BPFRRA DAJUD QTMESES SCP BPFSCP RISCP BPJSCP PSE OPSE TPSE RTPSE DTPSE RDTPSE
+RPDE BRPDE VRPDE INF FIMDirf
+""".split()
+KIND = {name: i + 1 for i, name in enumerate(NAMES)}
+LATER = "INFPC RTEP ESEP INFPA VPEIM RIMUN RISEN PSE OPSE TPSE RTPSE DTPSE RDTPSE RPDE BRPDE VRPDE INF".split()
+ANNUAL = "RIL96 RIPTS RIJMRE RIRSR".split()
+MONTHLY = """
+RTRT RTPO RTPP RTFA RTSP RTDP RTDS RTPA RTIRF CJAA CJAC ESRT ESPO ESPP ESFA ESSP ESDP ESDS ESPA ESIR ESDJ RIP65 RIDAC RIIRP RIAP
+RIMOG RIRPC RIBMR RICAP RISCP DAJUD
+""".split()
+VALUES = MONTHLY + ANNUAL + ["RIO", "QTMESES"]
+
+# the value records of each beneficiary, as document 004's lists 2.1 and 2.2 have them
+BPFDEC = "RTRT RTPO RTDP RTDS RTIRF CJAC CJAA ESRT ESPO ESDP ESDS ESIR ESDJ RIDAC RIIRP RIAP RIP65 RIJMRE RIO".split()
+BPFPROC = """
+RTRT RTPO RTDP RTDS RTIRF CJAC CJAA ESRT ESPO ESDP ESDS ESIR ESDJ RTPP RTFA RTSP ESPP ESFA ESSP RTPA ESPA RIMOG RIJMRE RIRSR
+""".split()
+BELOW = {
+    "DECPF": {
+        "BPFDEC": BPFDEC,
+        "BPJDEC": ["RTRT", "RTIRF"],
+        "BPFRRA": "RTRT RTPO RTIRF DAJUD QTMESES RIJMRE".split(),
+        "BPFSCP": ["RISCP"],
+        "BPJSCP": ["RISCP"],
+    },
+    "DECPJ": {
+        "BPFDEC": BPFDEC + "RIMOG RIBMR RICAP RIRPC RIL96 RIPTS".split(),
+        "BPJDEC": ["RTRT", "RTIRF"],
+        "BPFFCI": "RTRT RTIRF CJAC CJAA ESRT ESIR ESDJ RIP65 RIMOG RICAP RIO".split(),
+        "BPJFCI": ["RTRT", "RTIRF"],
+        "BPFPROC": BPFPROC,
+        "BPJPROC": "RTRT RTIRF RIRSR".split(),
+        "BPFRRA": "RTRT RTPO RTIRF RIMOG RIP65 RIJMRE DAJUD QTMESES".split(),
+        "BPFSCP": ["RISCP"],
+        "BPJSCP": ["RISCP"],
+    },
+}
+
+# a line of each record that keeps every rule; value records besides, below
+LINE = {
+    "Dirf": "Dirf|2025|2024|N||R6GP3ZA|",
+    "RESPO": f"RESPO|{CPF}|ANA LIMA|11|33334444||||",
+    "DECPF": f"DECPF|{CPF}|ANA LIMA|N|N|N|S|N|||N|||||",
+    "DECPJ": f"DECPJ|{CNPJ}|SERRA LTDA|0|{CPF}|N|N|N|N|N|N|N|N||",
+    "IDREC": "IDREC|0561|",
+    "BPFDEC": f"BPFDEC|{CPF}|ANA LIMA||N|N|",
+    "BPJDEC": f"BPJDEC|{CNPJ}|SERRA LTDA|",
+    "FCI": f"FCI|{CNPJ}|FUNDO SERRA|",
+    "BPFFCI": f"BPFFCI|{CPF}|ANA LIMA||",
+    "BPJFCI": f"BPJFCI|{CNPJ}|SERRA LTDA|",
+    "PROC": "PROC|1|12345|||||",
+    "BPFPROC": f"BPFPROC|{CPF}|ANA LIMA||",
+    "BPJPROC": f"BPJPROC|{CNPJ}|SERRA LTDA|",
+    "RRA": "RRA|1||||||",
+    "BPFRRA": f"BPFRRA|{CPF}|ANA LIMA|||N|",
+    "RIO": "RIO|100|OUTROS|",
+    "QTMESES": "QTMESES|10" + "|" * 12,
+    "SCP": f"SCP|{CNPJ}|SCP SERRA|",
+    "BPFSCP": f"BPFSCP|{CPF}|ANA LIMA||",
+    "BPJSCP": f"BPJSCP|{CNPJ}|SERRA LTDA||",
+    "FIMDirf": "FIMDirf|",
+}
+LINE.update({name: name + "|100" + "|" * 13 for name in MONTHLY})
+LINE.update({name: name + "|100|" for name in ANNUAL})
+
+RUN = []
+WANTED = []
+
+
+# ---- the form of a case
+
+
+def number(value):
+    return struct.pack("<Q", value)
+
+
+def string(data):
+    data = data if isinstance(data, bytes) else data.encode("latin-1")
+    return number(len(data)) + data
+
+
+def case(letter, parts, line):
+    RUN.append(letter.encode() + b"".join(parts))
+    WANTED.append(line)
+
+
+def words(*items):
+    return " ".join(str(item) for item in items if item != "")
+
+
+def lines_of(tree):
+    """The lines of a tree, and of each the number of the line above it that is indented less, 0 where none is."""
+    lines, open_lines = [], []
+    for row in tree.strip("\n").split("\n"):
+        text = row.lstrip(" ")
+        depth = len(row) - len(text)
+        open_lines = [(d, n) for d, n in open_lines if d < depth]
+        # a name stands for its line above; = means the text as it is
+        text = text[1:] if text.startswith("=") else LINE.get(text, text)
+        lines.append((text, open_lines[-1][1] if open_lines else 0))
+        open_lines.append((depth, len(lines)))
+    return lines
+
+
+def check_bytes(data, lines, breach, line, field=0, room=None, spare=3):
+    """A file's bytes; the lines that stand in it, as far as the line named; and document 01's number, line and field."""
+    entries = line if breach == 0 else line - 1
+    table, start = [], 0
+    for text, parent in lines[:entries]:
+        table += [KIND[text.split("|")[0]], start, len(text), parent]
+        start += len(text) + len(END)
+    size = 4 * (len(lines) + 2 if room is None else room) + spare
+    case("C", [number(size), string(data)], words(breach, line, field, entries, 1, *table))
+
+
+def check(tree, breach, line, field=0, after="", **more):
+    """A tree of lines; `after` is what follows the last one's CR LF."""
+    lines = lines_of(tree)
+    check_bytes("".join(text + END for text, _ in lines) + after, lines, breach, line, field, **more)
+
+
+def pf(tree):
+    return "Dirf\nRESPO\nDECPF\n" + tree.strip("\n")
+
+
+def pj(tree):
+    return "Dirf\nRESPO\nDECPJ\n" + tree.strip("\n")
+
+
+def write(kind, cells, breach, field=0, room=300, contents=None, lengths=None):
+    contents = "".join(cells) if contents is None else contents
+    lengths = [len(cell) for cell in cells] if lengths is None else lengths
+    text = "".join(cell + "|" for cell in cells) + END if breach == 0 else ""
+    given = [number(kind), number(room), string(contents), number(len(lengths))] + [number(n) for n in lengths]
+    case("W", given, words(breach, field, len(text), 1, text.encode("latin-1").hex()))
+
+
+def cells_of(name):
+    return LINE[name].split("|")[:-1]
+
+
+def with_cell(name, field, cell):
+    cells = cells_of(name)
+    return cells[: field - 1] + [cell] + cells[field:]
+
+
+def with_field(name, field, cell):
+    return "|".join(with_cell(name, field, cell)) + "|"
+
+
+# ---- files
+
+
+SIX = pf(
+    """
+  SCP
+    BPFSCP
+FIMDirf
+"""
+)
+
+
+def marked():
+    """M1 to M8."""
+    check_bytes("", [], 1, 1)
+    check(SIX, 0, 6)
+    check("\n".join(SIX.split("\n")[:5]), 1, 6)
+    check(SIX, 2, 7, after="\n")
+    check(SIX.replace("Dirf\nRESPO", "=DIRF|2025|2024|N||R6GP3ZA|\nRESPO"), 9, 1, 1)
+    check(SIX.replace("\nFIMDirf", "\n=FIMDirf"), 8, 6)
+    check(SIX.replace("DECPF", with_field("DECPF", 8, "S")), 19, 3, 9)
+    check(SIX.replace("FIMDirf", "    BPFSCP\nFIMDirf"), 20, 6, 2)
+
+
+def line_ends():
+    """4, 5, 6 and 8, at 1,024 and 1,025 bytes too, in line 1 and in line 2."""
+    for before in ([], [(LINE["Dirf"], 0)]):
+        head = "".join(text + END for text, _ in before)
+        line = len(before) + 1
+        for data, breach in [
+            ("a", 5), ("a\r", 5), ("\r", 5), ("a|", 5), ("FIMDirf|\r", 5),
+            ("\n", 6), ("a\n", 6), ("a\nb\r", 6), ("a\rb", 6), ("a\r\r\n", 6), ("a\rb\r\n", 6), ("\n\r", 6), ("\n\r\n", 6), ("\r\r", 6),
+            ("a|\nb|\r\n", 6),
+            ("\r\n", 8), ("a\r\n", 8), ("a|b\r\n", 8), ("\r\n\r\n", 8), (" \r\n", 8), ("Dirf|2025\r\n", 8),
+            ("a" * 1024, 5), ("a" * 1024 + "\r", 5), ("a" * 1024 + "\n", 6), ("a" * 1024 + "\rb", 6), ("a" * 1024 + "\r\n", 8),
+            ("a" * 1023 + "|\r\n", 9),
+            ("a" * 1025, 4), ("a" * 1025 + "\r", 4), ("a" * 1025 + "\n", 4), ("a" * 1025 + "\rb", 4), ("a" * 1025 + "\r\n", 4),
+            ("a" * 1024 + "|\r\n", 4),
+            ("a" * 3000, 4),
+        ]:
+            check_bytes(head + data, before, breach, line, 1 if breach == 9 else 0)
+
+
+def identifiers():
+    """9 and 10: every kind left for later is known, whatever stands behind it and wherever it stands."""
+    for text in ["dirf|", "DIRF|", "Dir|", "Dirff|", "|", " Dirf|", "Dirf |", "FIMDIRF|", "RTRTX|", "RTR|", "BPFRRRA|", "BPFICI|",
+    "QTMESSES|", "\x00|", "\xff|"]:
+        check("=" + text, 9, 1, 1)
+        check(pj("  =" + text + "\nFIMDirf"), 9, 4, 1)
+    for name in LATER:
+        check("=" + name + "|", 10, 1, 1)
+        check(pj("  =" + name + "|1|2|\nFIMDirf"), 10, 4, 1)
+
+
+FULL_PJ = """
+  IDREC
+    BPFDEC
+%s
+    BPJDEC
+%s
+  IDREC|0588|
+    BPFDEC
+  FCI
+    IDREC
+      BPFFCI
+%s
+      BPJFCI
+%s
+  PROC
+    IDREC
+      BPFPROC
+%s
+      BPJPROC
+%s
+  RRA
+    IDREC
+      BPFRRA
+%s
+  SCP
+    BPFSCP
+%s
+    BPJSCP
+%s
+FIMDirf"""
+
+FULL_PF = """
+  IDREC
+    BPFDEC
+%s
+    BPJDEC
+%s
+  RRA
+    IDREC
+      BPFRRA
+%s
+  SCP
+    BPFSCP
+%s
+    BPJSCP
+%s
+FIMDirf"""
+
+
+def values(names, depth):
+    return "\n".join(" " * depth + name for name in names)
+
+
+def full(declarant, turned):
+    """Every record that the declarant's list has, each value record once; turned round, the value records come in the other order."""
+    has = {who: names[::-1] if turned else names for who, names in BELOW[declarant].items()}
+    if declarant == "DECPJ":
+        order = [("BPFDEC", 6), ("BPJDEC", 6), ("BPFFCI", 8), ("BPJFCI", 8), ("BPFPROC", 8), ("BPJPROC", 8), ("BPFRRA", 8), ("BPFSCP", 6),
+        ("BPJSCP", 6)]
+        return pj(FULL_PJ % tuple(values(has[who], depth) for who, depth in order))
+    order = [("BPFDEC", 6), ("BPJDEC", 6), ("BPFRRA", 8), ("BPFSCP", 6), ("BPJSCP", 6)]
+    return pf(FULL_PF % tuple(values(has[who], depth) for who, depth in order))
+
+
+def whole_files():
+    """Files that keep every rule, every kind of the base among them."""
+    for declarant in ("DECPF", "DECPJ"):
+        for turned in (False, True):
+            tree = full(declarant, turned)
+            check(tree, 0, len(tree.strip("\n").split("\n")))
+    check(pf("FIMDirf"), 0, 4)
+    check(pj("FIMDirf"), 0, 4)
+    for name in "IDREC FCI PROC RRA SCP".split():
+        check(pj("  " + name + "\nFIMDirf"), 0, 5)
+    for name in "IDREC RRA SCP".split():
+        check(pf("  " + name + "\nFIMDirf"), 0, 5)
+    # nothing is left, and FIMDirf was not read
+    check(LINE["Dirf"], 1, 2)
+    check("Dirf\nRESPO", 1, 3)
+    check(pj("  IDREC\n    BPFDEC\n      RTRT"), 1, 7)
+    for after in ("\n", "x", "\r\n", LINE["FIMDirf"] + END, "a" * 2000):
+        check(pj("FIMDirf"), 2, 5, after=after)
+
+
+def places():
+    """12, and the parents where a record may stand."""
+    for name in LINE:
+        if name != "Dirf":
+            check(name + "\nRESPO", 12, 1, 1)
+        if name != "RESPO":
+            check("Dirf\n" + name, 12, 2, 1)
+        if name not in ("DECPF", "DECPJ"):
+            check("Dirf\nRESPO\n" + name, 12, 3, 1)
+        if name not in "IDREC RRA SCP FIMDirf".split():
+            check(pf("  " + name), 12, 4, 1)
+        if name not in "IDREC FCI PROC RRA SCP FIMDirf".split():
+            check(pj("  " + name), 12, 4, 1)
+    # READINGS.md's five
+    check(pj("  FCI\n    BPFFCI"), 12, 5, 1)
+    check(pj("  PROC\n    IDREC\n      BPFDEC"), 12, 6, 1)
+    check(pj("  FCI\n    IDREC\n      BPFDEC"), 12, 6, 1)
+    check(pj("  SCP\n    IDREC"), 12, 5, 1)
+    check(pf("  SCP\n    IDREC"), 12, 5, 1)
+    check(pj("  IDREC\n    BPFFCI"), 12, 5, 1)
+    # the beneficiaries of one block, below an IDREC of another
+    blocks = {"": "BPFDEC BPJDEC", "FCI": "BPFFCI BPJFCI", "PROC": "BPFPROC BPJPROC", "RRA": "BPFRRA", "SCP": "BPFSCP BPJSCP"}
+    for tree, block in ((pj, ""), (pj, "FCI"), (pj, "PROC"), (pj, "RRA"), (pf, ""), (pf, "RRA")):
+        for other in blocks:
+            for name in blocks[other].split():
+                lead = "  IDREC\n    " if block == "" else "  " + block + "\n    IDREC\n      "
+                line = 5 if block == "" else 6
+                if other == block:
+                    check(tree(lead + name + "\nFIMDirf"), 0, line + 1)
+                else:
+                    check(tree(lead + name), 12, line, 1)
+    for name in "BPFDEC BPJDEC BPFFCI BPJFCI BPFPROC BPJPROC BPFRRA".split():
+        check(pj("  SCP\n    " + name), 12, 5, 1)
+        check(pj("  RRA\n    " + name), 12, 5, 1)
+    # blocks and beneficiaries in their order
+    order = "IDREC FCI PROC RRA SCP".split()
+    for i, first in enumerate(order):
+        for j, second in enumerate(order):
+            # an IDREC behind FCI, PROC or RRA is theirs; behind SCP it may not stand
+            if second == "IDREC" and first in ("FCI", "PROC", "RRA"):
+                check(pj("  " + first + "\n    IDREC\nFIMDirf"), 0, 6)
+            elif i < j:
+                check(pj("  " + first + "\n  " + second + "\nFIMDirf"), 0, 6)
+            elif i > j:
+                check(pj("  " + first + "\n  " + second), 12, 5, 1)
+    check(pj("  IDREC\n    BPJDEC\n    BPFDEC"), 12, 6, 1)
+    check(pj("  FCI\n    IDREC\n      BPJFCI\n      BPFFCI"), 12, 7, 1)
+    check(pj("  PROC\n    IDREC\n      BPJPROC\n      BPFPROC"), 12, 7, 1)
+    check(pj("  SCP\n    BPJSCP\n    BPFSCP"), 12, 6, 1)
+    # a new IDREC or block closes the beneficiary
+    check(pj("  IDREC\n    BPFDEC\n  IDREC|0588|\n    RTRT"), 12, 7, 1)
+    check(pj("  IDREC\n    BPFDEC\n  FCI\n    RTRT"), 12, 7, 1)
+    check(pj("  IDREC\n    RTRT"), 12, 5, 1)
+    check(pj("  SCP\n    RISCP"), 12, 5, 1)
+    # an IDREC after PROC is the PROC's, the next one too
+    check(pj("  PROC\n    IDREC\n      BPFPROC\n    IDREC|0588|\n      BPFPROC\n        RTRT\nFIMDirf"), 0, 10)
+    check(pj("  IDREC\n    BPFDEC\n  PROC\n    IDREC\n      BPFPROC\n  RRA\n    IDREC\n      BPFRRA\n        DAJUD\nFIMDirf"), 0, 13)
+    # FIMDirf may stand anywhere after line 3
+    for tree in ("  IDREC", "  IDREC\n    BPFDEC", "  IDREC\n    BPFDEC\n      RTRT", "  FCI\n    IDREC", "  SCP"):
+        check(pj(tree + "\nFIMDirf"), 0, 5 + tree.count("\n"))
+
+
+def below():
+    """Every value record below every beneficiary, under both declarants, where the lists do not have it."""
+    lead = {
+        "BPFDEC": "  IDREC\n    ", "BPJDEC": "  IDREC\n    ", "BPFFCI": "  FCI\n    IDREC\n      ", "BPJFCI": "  FCI\n    IDREC\n      ",
+        "BPFPROC": "  PROC\n    IDREC\n      ", "BPJPROC": "  PROC\n    IDREC\n      ", "BPFRRA": "  RRA\n    IDREC\n      ",
+        "BPFSCP": "  SCP\n    ", "BPJSCP": "  SCP\n    ",
+    }
+    for declarant, tree in (("DECPF", pf), ("DECPJ", pj)):
+        for who, has in BELOW[declarant].items():
+            line = 5 + lead[who].count("\n")
+            for name in VALUES:
+                if name not in has:
+                    check(tree(lead[who] + who + "\n  " + name), 12, line, 1, spare=0)
+
+
+def orders():
+    """20 and 21."""
+    two = [("BPFSCP", "  SCP\n    "), ("BPJSCP", "  SCP\n    "), ("BPFDEC", "  IDREC\n    "), ("BPJDEC", "  IDREC\n    "), ("BPFFCI",
+    "  FCI\n    IDREC\n      "),
+           ("BPJFCI", "  FCI\n    IDREC\n      "), ("BPFPROC", "  PROC\n    IDREC\n      "), ("BPJPROC", "  PROC\n    IDREC\n      "),
+           ("BPFRRA", "  RRA\n    IDREC\n      ")]
+    for name, lead in two:
+        size = len(cells_of(name)[1])
+        same = with_field(name, 2, "5" * size)
+        indent = " " * (len(lead) - lead.rfind("\n") - 1)
+        line = 5 + lead.count("\n")
+        check(pj(lead + same + "\n" + indent + with_field(name, 2, "5" * (size - 1) + "6") + "\nFIMDirf"), 0, line + 1)
+        check(pj(lead + same + "\n" + indent + same), 20, line, 2)
+        check(pj(lead + same + "\n" + indent + with_field(name, 2, "5" * (size - 1) + "4")), 20, line, 2)
+        # compared as bytes with their zeros, from the first byte on
+        check(pj(lead + same + "\n" + indent + with_field(name, 2, "4" + "9" * (size - 1))), 20, line, 2)
+    for name in ("IDREC", "FCI", "SCP"):
+        size = len(cells_of(name)[1])
+        one, other = with_field(name, 2, "0" * (size - 1) + "1"), with_field(name, 2, "0" * (size - 1) + "2")
+        check(pj("  " + one + "\n  " + other + "\nFIMDirf"), 0, 6)
+        check(pj("  " + one + "\n  " + one), 20, 5, 2)
+        check(pj("  " + other + "\n  " + one), 20, 5, 2)
+    # PROC and RRA: field 2, then field 3, as bytes, a proper beginning first, the empty key the least
+    for name, tree in (("PROC", pj), ("RRA", pj), ("RRA", pf)):
+        for (a, b), (x, y), breach in [
+            (("1", "10"), ("1", "9"), 0), (("1", "9"), ("1", "10"), 20), (("1", "1"), ("1", "10"), 0), (("1", "10"), ("1", "1"), 20),
+            (("1", "5"), ("1", "5"), 20), (("1", "9"), ("2", "1"), 0), (("2", "1"), ("1", "9"), 20), (("1", "A"), ("1", "a"), 0), (("1",
+            "Z\xff"), ("1", "Z"), 20),
+            (("1", "007"), ("1", "7"), 0), (("1", "7"), ("1", "007"), 20), (("2", "B"), ("2", "A"), 20),
+        ]:
+            first = "|".join([name, a, b]) + "|||||"
+            second = "|".join([name, x, y]) + "|||||"
+            check(tree("  " + first + "\n  " + second + "\nFIMDirf"), breach, 6 if breach == 0 else 5, 0 if breach == 0 else 2)
+    check(pj("  RRA|1||||||\n  RRA|1|1|||||\nFIMDirf"), 0, 6)
+    check(pj("  RRA|1|1|||||\n  RRA|1||||||"), 20, 5, 2)
+    check(pj("  RRA|1||||||\n  RRA|1||||||"), 20, 5, 2)
+    # the one before need not be the line before
+    low, high = with_field("BPFDEC", 2, "00000000001"), with_field("BPFDEC", 2, "00000000002")
+    check(pj(f"  IDREC\n    {high}\n      RTRT\n      RIO\n    {low}"), 20, 8, 2)
+    check(pj(f"  IDREC\n    {low}\n      RTRT\n    {high}\n      RTRT\nFIMDirf"), 0, 9)
+    check(pj(f"  IDREC\n    {low}\n  IDREC"), 20, 6, 2)
+    check(pj("  FCI\n    IDREC\n      BPFFCI\n  FCI"), 20, 7, 2)
+    check(pj("  PROC\n    IDREC\n      BPFPROC\n        RTRT\n  PROC"), 20, 8, 2)
+    # the order starts afresh under a new parent
+    check(pj(f"  IDREC\n    {high}\n  IDREC|0588|\n    {low}\n  IDREC|1708|\n    {low}\nFIMDirf"), 0, 10)
+    funds = "  IDREC|9999|\n  FCI\n    IDREC\n  FCI|22222333000181|B|\n    IDREC\n"
+    others = "  PROC\n    IDREC\n      BPFPROC\n  RRA\n    IDREC\n      BPFRRA\n"
+    check(pj(funds + others + "FIMDirf"), 0, 15)
+    check(pj("  SCP\n    BPFSCP\n  SCP|22222333000181|B|\n    BPFSCP\nFIMDirf"), 0, 8)
+    check(pj("  IDREC|0588|\n  FCI\n    IDREC|0561|\n    IDREC|0561|"), 20, 7, 2)
+    # 21: once under one beneficiary, and again under the next
+    for who, lead, depth in (("BPFDEC", "  IDREC\n    ", 4), ("BPFSCP", "  SCP\n    ", 4), ("BPFRRA", "  RRA\n    IDREC\n      ", 6),
+    ("BPFPROC", "  PROC\n    IDREC\n      ", 6)):
+        value = BELOW["DECPJ"][who][0]
+        line = 6 + lead.count("\n")
+        next_one = with_field(who, 2, "99999999999")
+        deep = " " * (depth + 2)
+        check(pj(f"{lead}{who}\n{deep}{value}\n{deep}{value}"), 21, line, 1)
+        check(pj(f"{lead}{who}\n{deep}{value}\n{' ' * depth}{next_one}\n{deep}{value}\nFIMDirf"), 0, line + 2)
+    check(pj("  IDREC\n    BPFDEC\n      RTRT\n      RTPO\n      RIO\n      RTRT"), 21, 9, 1)
+    check(pj("  IDREC\n    BPFDEC\n      RIO\n      RIO|200|AINDA OUTROS|"), 21, 7, 1)
+
+
+# of each number a file that gives it: the tree, the line, the field
+def faults():
+    short = "  IDREC\n    BPFDEC\n"
+    yield 8, pj(short + "      =RTRT"), 6, 0
+    yield 9, pj(short + "      =RTRR|"), 6, 1
+    yield 10, pj(short + "      =INFPC|"), 6, 1
+    yield 12, pj(short + "      RISCP"), 6, 1
+    yield 11, pj(short + "      RTRT|1|"), 6, 0
+    yield 13, pj(short + "      RIO||OUTROS|"), 6, 2
+    yield 14, pj(short + "      RIO|x|OUTROS|"), 6, 2
+    yield 15, pj(short + "      RIO|12345678901234|OUTROS|"), 6, 2
+    yield 16, pj(short + "      RIO|0|OUTROS|"), 6, 2
+    yield 17, pj("  IDREC\n    " + with_field("BPFDEC", 4, "20230229")), 5, 4
+    yield 18, pj("  IDREC\n    " + with_field("BPFDEC", 5, "X")), 5, 5
+    yield 19, "Dirf\nRESPO\n" + with_field("DECPF", 8, "S"), 3, 9
+    yield 21, pj(short + "      RTRT\n      RTRT"), 7, 1
+    yield 20, pj("  IDREC\n  IDREC"), 5, 2
+
+
+def rooms():
+    """7, tried last: against every other fault of its line, and before those of later lines."""
+    for breach, tree, line, field in faults():
+        check(tree, breach, line, field, room=line)
+        check(tree, breach, line, field, room=line - 1)
+        if line > 3:
+            check(tree, 7, line - 1, 0, room=line - 2)
+    for spare in range(4):
+        check(SIX, 0, 6, room=6, spare=spare)
+        check(SIX, 7, 6, room=5, spare=spare)
+        check(SIX, 7, 1, room=0, spare=spare)
+    check(SIX, 2, 7, room=6, spare=0, after="\n")
+    check(SIX, 7, 6, room=5, spare=0, after="\n")
+    check("\n".join(SIX.split("\n")[:5]), 1, 6, room=5, spare=0)
+    check_bytes("", [], 1, 1, room=0, spare=0)
+    for data, breach in (("a" * 1025, 4), ("a", 5), ("a\n", 6), ("\r\n", 8)):
+        check_bytes(LINE["Dirf"] + END + data, [(LINE["Dirf"], 0)], breach, 2, room=1, spare=0)
+    check(SIX, 0, 6, room=3000)
+
+
+def pairs():
+    """Two faults in one line or one file: which is named."""
+    # 12 against 11: the identifier alone decides 12
+    check(pf("  FCI|"), 12, 4, 1)
+    check(pj("  IDREC\n    BPFFCI|1|"), 12, 5, 1)
+    check("RESPO|", 12, 1, 1)
+    # 9 and 10 against 11 and 12
+    check("INF|1|2|3|", 10, 1, 1)
+    # 11 against 13 and 14
+    check("Dirf||", 11, 1)
+    check("Dirf|x|2024|N||R6GP3ZA|N|", 11, 1)
+    check("Dirf|2025|2024|N||R6GP3ZA||", 11, 1)
+    check("Dirf|", 11, 1)
+    for more in ("|", "||", "A|", "|" * 900):
+        check("Dirf\nRESPO\n=" + LINE["DECPF"] + more, 11, 3)
+    check("=FIMDirf||", 12, 1, 1)
+    check(pf("=FIMDirf||"), 11, 4)
+    # 8 against 9
+    check("=XXXX", 8, 1)
+    # 13 in a low field against 14 in a high one, and the other way about
+    check("Dirf||2024|N|x|R6GP3ZA|", 13, 1, 2)
+    check("Dirf|2025||N|x|R6GP3ZA|", 13, 1, 3)
+    check("Dirf|x|2024|||R6GP3ZA|", 14, 1, 2)
+    check("Dirf|2025|2024|||X|", 13, 1, 4)
+    check("Dirf|2026|2024|||R6GP3ZA|", 18, 1, 2)
+    # 14 against 15: a masked CPF is both
+    masked = "111.444.777-35"
+    check("Dirf\n" + with_field("RESPO", 2, masked), 14, 2, 2)
+    check("Dirf\nRESPO\n" + with_field("DECPF", 2, masked), 14, 3, 2)
+    check(pj("  IDREC\n    " + with_field("BPFDEC", 2, masked)), 14, 5, 2)
+    check("Dirf\n" + with_field("RESPO", 2, "111444777350"), 15, 2, 2)
+    # 15 against 16
+    check("Dirf\n" + with_field("RESPO", 4, "011"), 15, 2, 4)
+    check("Dirf\n" + with_field("RESPO", 4, "0"), 15, 2, 4)
+    check("Dirf\n" + with_field("RESPO", 4, "01"), 16, 2, 4)  # M12
+    check("Dirf\n" + with_field("RESPO", 4, "0x"), 14, 2, 4)
+    check(pj("  IDREC\n    BPFDEC\n      RIO|00000000000000|OUTROS|"), 15, 6, 2)
+    check(pj("  IDREC\n    BPFDEC\n      RIO|0000000000000|OUTROS|"), 16, 6, 2)
+    check(pj("  IDREC\n    BPFDEC\n      RIO|0|" + "A" * 61 + "|"), 16, 6, 2)
+    check(pj("  IDREC\n    BPFDEC\n      RIO||" + "A" * 61 + "|"), 13, 6, 2)
+    check(pj("  IDREC\n    BPFDEC\n      RIO|1|" + "A" * 61 + "|"), 15, 6, 3)
+    # 17 against 18, by field
+    both = cells_of("DECPF")
+    both[8], both[9] = "20230229", "3"
+    check("Dirf\nRESPO\n" + "|".join(both) + "|", 17, 3, 9)
+    both[3] = "X"
+    check("Dirf\nRESPO\n" + "|".join(both) + "|", 18, 3, 4)
+    # 13 to 18 of every field before 19
+    late = cells_of("DECPF")
+    late[7], late[14] = "S", "A" * 61
+    check("Dirf\nRESPO\n" + "|".join(late) + "|", 15, 3, 15)
+    # 19 against 20 and 21, which only later lines of that file can have
+    check("Dirf\nRESPO\n" + with_field("DECPF", 8, "S") + "\n  IDREC\n  IDREC", 19, 3, 9)
+    check("Dirf\nRESPO\n" + with_field("DECPF", 8, "S") + "\n  IDREC\n    BPFDEC\n      RTRT\n      RTRT", 19, 3, 9)
+    # 18 and 17 against 20 and 21
+    check(pj("  IDREC\n    BPFDEC\n    " + with_field("BPFDEC", 6, "n")), 18, 6, 6)
+    check(pj("  IDREC\n    BPFDEC\n    " + with_field("BPFDEC", 4, "20241301")), 17, 6, 4)
+    check(pj("  IDREC\n    BPFDEC\n      RTRT\n      " + with_field("RTRT", 14, "0")), 16, 7, 14)
+    # 12 against 20 and 21: a value record below a closed beneficiary is 12, not 21
+    check(pj("  IDREC\n    BPFDEC\n      RTRT\n  IDREC|0588|\n    RTRT"), 12, 8, 1)
+    # the first line with a fault, not the gravest
+    check(pj("  " + with_field("IDREC", 2, "056") + "\n=\n=XXXX"), 15, 4, 2)
+    # reading stops at a bad beneficiary: its amounts go to nobody
+    check(pj("  IDREC\n    BPFDEC\n      RTRT\n    " + with_field("BPFDEC", 2, "1114447773") + "\n      RTRT"), 15, 7, 2)
+
+
+# ---- the fields of each record: C, N or D; F(ixed) or V(ariable) and the size; ! obligatory; and what it holds: a(mount), m(onth
+# count), d(dd), t(elephone), e(leven or fourteen digits), or = and the valid values. DECPF field 8 as S is the conditions' matter.
+ROWS = {
+    "Dirf": "CF4! NF4!=2025 NF4!=2024 CF1!=N,S NF12 CF7!=R6GP3ZA",
+    "RESPO": "CF5! NF11! CV60! NF2!d NV9!t NV6 NV9t CV50",
+    "DECPF": "CF5! NF11! CV60! CF1!=N,S CF1!=N,S CF1!=N,S CF1!=N,S CF1!=N DF8 NF1=1,2 CF1!=N,S DF8 NF1=0,1 NF11 CV60",
+    "DECPJ": "CF5! NF14! CV150! NF1!=0,1,2,3,4,8 NF11! CF1!=N,S CF1!=N,S CF1!=N,S CF1!=N,S CF1!=N,S CF1!=N,S CF1!=N,S CF1!=N,S DF8",
+    "IDREC": "CF5! NF4!",
+    "BPFDEC": "CF6! NF11! CV60! DF8 CF1!=N,S CF1!=N,S",
+    "BPJDEC": "CF6! NF14! CV150!",
+    "FCI": "CF3! NF14! CV150!",
+    "BPFFCI": "CF6! NF11! CV60! DF8",
+    "BPJFCI": "CF6! NF14! CV150!",
+    "PROC": "CF4! NF1!=1,2,3 CV20! NF1=1,2 NV14e CV150 NV13a",
+    "BPFPROC": "CF7! NF11! CV60! DF8",
+    "BPJPROC": "CF7! NF14! CV150!",
+    "RRA": "CF3! NF1!=1,2 CV20 NF1=1,2 NV14e CV150 NV13a",
+    "BPFRRA": "CF6! NF11! CV60! CV50 DF8 CF1!=N,S",
+    "RTRT": "CV5!" + " NV13a" * 13,
+    "RIL96": "CV6! NV13!a",
+    "RIO": "CF3! NV13!a CV60!",
+    "QTMESES": "CF7!" + " NV4m" * 12,
+    "SCP": "CF3! NF14! CV150!",
+    "BPFSCP": "CF6! NF11! CV60! NV4",
+    "BPJSCP": "CF6! NF14! CV150! CV4",
+    "FIMDirf": "CF7!",
+}
+MONTHS = {"RTRT": (2, 8, 14), "QTMESES": (2, 13)}
+
+
+def taken(row):
+    """Contents that a row takes, and contents that it refuses, each with the number."""
+    head, _, listed = row.partition("=")
+    kind, fill, rest = head[0], head[1], head[2:]
+    size = int("".join(c for c in rest if c.isdigit()))
+    holds = rest[-1] if rest[-1] in "amdte" else ""
+    if "!" in rest:
+        yield "", 13
+    else:
+        yield "", 0
+    if kind == "D":
+        for day in "19000101 20991231 20240229 20000229 20240131 20240430 20241231".split():
+            yield day, 0
+        for day in "18991231 21000101 20230229 19000229 20240230 20240431 20240001 20241301 20240100 20240132 00000000 99999999".split():
+            yield day, 17
+        for bad in ("2024022A", "2024/2/9", "29-02-2024", "2024 229"):
+            yield bad, 14
+        for bad in ("2024022", "202402290", "240229"):
+            yield bad, 15
+        return
+    if kind == "C":
+        for byte in "|\r\n":
+            yield ("A" + byte + "A")[:size] if size > 1 else byte, 14
+    else:
+        for byte in "x/: -":
+            yield (byte + "1" * 20)[:size], 14
+        yield "1" * (size - 1) + "\xb2", 14
+    if listed:
+        values = listed.split(",")
+        for value in values:
+            yield value, 0
+        yield "0" * size if kind == "N" and "0" not in values else "9" * size, 18
+        if kind == "C":
+            yield values[0].lower() if values[0].lower() not in values else "X" * size, 18
+            yield "\x00" * size, 18
+        yield values[0] + "1", 15
+        return
+    filling = "A" if kind == "C" else "1"
+    if fill == "F":
+        yield filling * size, 0
+        yield filling * (size - 1), 15
+    yield filling * (size + 1), 15
+    if holds == "t":
+        yield "11111111", 0
+        yield "111111111", 0
+        yield "1111111", 15
+        yield "011111111", 0
+        return
+    if holds == "e":
+        for count in (11, 14):
+            yield "1" * count, 0
+        for count in (1, 10, 12, 13):
+            yield "1" * count, 15
+        return
+    if fill == "V":
+        yield filling, 0
+        yield filling * size, 0
+    if holds in ("a", "m"):
+        yield "9" * size, 0
+        yield "0", 16
+        yield "0" + "1" * (size - 1), 16
+        yield "0" * (size + 1), 15
+        yield "-1", 14
+        yield "1,00", 14
+    elif holds == "d":
+        yield "01", 16
+        yield "00", 16
+        yield "10", 0
+    elif kind == "N":
+        yield "0" * size, 0
+    else:
+        yield "\x00\xff\x7f "[:size] + "A" * max(0, size - 4), 0
+
+
+def field_rules():
+    """Every row, through the line writer: all of its contents where the row is new, else the first for each number."""
+    known = set()
+    for name, rows in ROWS.items():
+        for field, row in enumerate(rows.split(), 1):
+            if field == 1 or (name in MONTHS and field not in MONTHS[name]):
+                continue
+            given = set()
+            for cell, breach in taken(row):
+                if row in known and breach in given:
+                    continue
+                given.add(breach)
+                write(KIND[name], with_cell(name, field, cell), breach, field if breach else 0)
+            known.add(row)
+
+
+def identifier_rules():
+    """Field 1: the row that the source prints, then the identifier itself."""
+    for name in LINE:
+        write(KIND[name], cells_of(name), 0)
+        write(KIND[name], with_cell(name, 1, "X" * len(name)), 18, 1)
+        size = 5 if name in MONTHLY else 6 if name in ANNUAL else len(name)
+        write(KIND[name], with_cell(name, 1, "X" * (size + 1)), 15, 1)
+    for name in ("Dirf", "RTRT", "RIJMRE", "RIO", "FIMDirf"):
+        write(KIND[name], with_cell(name, 1, ""), 13, 1)
+        write(KIND[name], with_cell(name, 1, name[:-1]), 18 if name in MONTHLY + ANNUAL else 15, 1)
+    write(KIND["RTRT"], with_cell("RTRT", 1, "RTPO"), 18, 1)
+    write(KIND["Dirf"], with_cell("Dirf", 1, "DIRF"), 18, 1)
+    for byte in "|\r\n":
+        write(KIND["Dirf"], with_cell("Dirf", 1, "Dir" + byte), 14, 1)
+
+
+def conditions():
+    """19: field 8 is S: 9 and 10 are filled; and 10 is 1: 11 is S; and 13 is empty. The lowest field is named."""
+    for nine, ten, eleven, thirteen, field in [
+        ("", "", "N", "", 9), ("20240101", "", "N", "", 10), ("", "2", "N", "", 9), ("20240101", "1", "N", "", 11), ("20240101", "1", "S",
+        "", 0),
+        ("20240101", "2", "N", "", 0), ("20240101", "2", "S", "", 0), ("20240101", "2", "N", "0", 13), ("20240101", "1", "S", "1", 13),
+        ("", "", "S", "1", 9),
+        ("20240101", "1", "N", "1", 11), ("20240101", "", "N", "1", 10),
+    ]:
+        for eight in ("S", "N"):
+            cells = cells_of("DECPF")
+            cells[7:13] = [eight, nine, ten, eleven, "", thirteen]
+            breach = 19 if eight == "S" and field else 0
+            write(KIND["DECPF"], cells, breach, field if breach else 0)
+            line = "|".join(cells) + "|"
+            if breach:
+                check("Dirf\nRESPO\n" + line, 19, 3, field)
+            else:
+                check("Dirf\nRESPO\n" + line + "\nFIMDirf", 0, 4)
+
+
+def writer_order():
+    """22, 11, 23, 13 to 18, 19, 24."""
+    cells = cells_of("IDREC")
+    for kind in [0, 74, 75, 255, 256, 261, 65536 + 5, 2**31, 2**32 - 1] + [KIND[name] for name in LATER]:
+        write(kind, cells, 22)
+        write(kind, [], 22, room=0)
+    for name, rows in ROWS.items():
+        count = len(rows.split())
+        write(KIND[name], [], 11)
+        write(KIND[name], ["A"] * (count + 1), 11)
+        write(KIND[name], ["A"] * (count - 1), 11)
+    write(KIND["IDREC"], ["A"] * 32, 11)
+    write(KIND["IDREC"], [], 11, contents="IDREC0561")
+    # 11 against 23, 23 against 13 to 18
+    write(KIND["IDREC"], [], 11, contents="IDREC0561", lengths=[5, 5, 5])
+    for lengths in ([5, 3], [5, 5], [0, 0], [4, 4], [9, 1], [10, 0], [2**64 - 1, 10], [2**63, 2**63 + 9], [2**64 - 1, 2**64 - 1], [5,
+    2**64 - 5 + 4]):
+        write(KIND["IDREC"], [], 23, contents="IDREC0561", lengths=lengths)
+    write(KIND["IDREC"], [], 23, contents="", lengths=[0, 1])
+    write(KIND["IDREC"], [], 13, 1, contents="", lengths=[0, 0])
+    write(KIND["IDREC"], [], 15, 1, contents="IDREC0561", lengths=[9, 0])
+    write(KIND["IDREC"], [], 13, 1, contents="IDREC0561", lengths=[0, 9])
+    write(KIND["IDREC"], [], 15, 1, contents="IDREC0561", lengths=[4, 5])
+    # 24, and before it every other
+    for name in ("IDREC", "FIMDirf", "DECPJ", "RTRT"):
+        size = len(LINE[name]) + 2
+        for room in (size, size + 1, 4096):
+            write(KIND[name], cells_of(name), 0, room=room)
+        for room in (0, 1, 2, size - 2, size - 1):
+            write(KIND[name], cells_of(name), 24, room=room)
+    write(KIND["IDREC"], with_cell("IDREC", 2, "056"), 15, 2, room=0)
+    write(KIND["DECPF"], with_cell("DECPF", 8, "S"), 19, 9, room=0)
+    # the longest line that a record can have
+    longest = ["RRA", "2", "P" * 20, "2", "1" * 14, "N" * 150, "9" * 13]
+    write(KIND["RRA"], longest, 0)
+    check(pj("  " + "|".join(longest) + "|\nFIMDirf"), 0, 5)
+    # place and order are the file's concern
+    write(KIND["RIMOG"], cells_of("RIMOG"), 0)
+
+
+def field_places():
+    for text, fields in [
+        ("", []), ("|", [(0, 0)]), ("a|", [(0, 1)]), ("ab|cd|", [(0, 2), (3, 2)]), ("ab|cd", [(0, 2)]), ("||", [(0, 0), (1, 0)]), ("a",
+        []), ("|a|", [(0, 0), (1, 1)]),
+        ("a||b|c", [(0, 1), (2, 0), (3, 1)]), ("\r\n|\x00|\xff|", [(0, 2), (3, 1), (5, 1)]), ("a" * 2000 + "|b|", [(0, 2000), (2001, 1)]),
+        ("Dirf|2025|2024|N||R6GP3ZA|", [(0, 4), (5, 4), (10, 4), (15, 1), (17, 0), (18, 7)]),
+    ]:
+        for k in range(1, len(fields) + 1):
+            case("F", [number(k), string(text)], words(1, *fields[k - 1]))
+        for k in (0, len(fields) + 1, len(fields) + 2, 2**32, 2**64 - 1):
+            case("F", [number(k), string(text)], words(0, len(text), 0))
+    many = "|" * 500
+    for k in (1, 15, 16, 500):
+        case("F", [number(k), string(many)], words(1, k - 1, 0))
+    case("F", [number(501), string(many)], words(0, 500, 0))
+
+
+def numbers():
+    """M9, M10 and the readers and writers of amounts and month counts."""
+    for letter, size in (("A", 13), ("M", 4)):
+        nines = "9" * size
+        for text, breach in [
+            ("", 0), ("1", 0), ("10", 0), ("12", 0), (nines, 0), ("1" + "0" * (size - 1), 0), ("0", 16), ("01", 16), ("0" * size, 16),
+            ("0" + nines, 15), ("1" + nines, 15),
+            ("9" + nines, 15), ("0" * 300, 15), ("x", 14), ("-1", 14), ("+1", 14), ("1.0", 14), ("1,0", 14), (" 1", 14), ("1 ", 14),
+            ("0x", 14), (nines + "x", 14),
+            ("x" * (size + 1), 14), ("/", 14), (":", 14), ("\x00", 14), ("\xb9", 14), ("|", 14), ("1|", 14), ("1\r\n", 14),
+        ]:
+            case(letter, [string(text)], words(breach, int(text) if breach == 0 and text else 0))
+    for letter, size in (("a", 13), ("m", 4)):
+        most = 10**size - 1
+        for value in (0, 1, 9, 10, 99, 100, 1000, 9999, 10**size // 10, most):
+            digits = str(value) if value else ""
+            for room in sorted({len(digits), len(digits) + 1, size, 20, 4096}):
+                case(letter, [number(value), number(room)], words(0, len(digits), 1, digits.encode().hex()))
+            for room in range(max(0, len(digits) - 2), len(digits)):
+                case(letter, [number(value), number(room)], words(24, 0, 1))
+        for value in (most + 1, most + 2, 10 ** (size + 2), 2**32, 2**63, 2**64 - 1):
+            if value > most:
+                for room in (0, size, 20):
+                    case(letter, [number(value), number(room)], words(15, 0, 1))
+
+
+def limits():
+    """The most that a case may have, and last of all a case beyond it: what comes after that is not read."""
+    check_bytes("".join(text + END for text, _ in lines_of(SIX)), lines_of(SIX), 0, 6, room=3000, spare=3)
+    case("W", [number(KIND["FIMDirf"]), number(4096), string("FIMDirf"), number(1), number(7)], words(0, 0, 10, 1, b"FIMDirf|\r\n".hex()))
+    case("C", [number(12004), string("")], "bad case")
+    RUN.append(b"A" + string("1"))
+
+
+def main():
+    for group in (marked, line_ends, identifiers, whole_files, places, below, orders, rooms, pairs, field_rules, identifier_rules,
+    conditions, writer_order,
+                  field_places, numbers, limits):
+        group()
+    folder = os.path.join(ROOT, "crates", "replay")
+    with open(os.path.join(folder, "stdin"), "wb") as out:
+        out.write(b"".join(RUN))
+    with open(os.path.join(folder, "stdout"), "w", newline="\n") as out:
+        out.write("".join(line + "\n" for line in WANTED))
+    print(f"{len(WANTED)} cases")
+
+
+if __name__ == "__main__":
+    main()
