@@ -33,7 +33,7 @@ module _ {K Y : Type 0} {A X S : K → Type 0} (ensures : (κs : K) → A κs �
 pub both-one : {X Y : Type 0} {x y a : X} {s t b : Y} → (x ≡ a) × (s ≡ b) → (y ≡ a) × (t ≡ b) → (x ≡ y) × (s ≡ t)
 both-one p q = (p .0 ∙ sym (q .0), p .1 ∙ sym (q .1))
 
-by-parts : {X : Type 0} (x y : RefT X) {l : X} {b o : ℕ} → (now x ≡ l) × ((ptr x .0 ≡ b) × (ptr x .1 ≡ o))
+pub by-parts : {X : Type 0} (x y : RefT X) {l : X} {b o : ℕ} → (now x ≡ l) × ((ptr x .0 ≡ b) × (ptr x .1 ≡ o))
     → (now y ≡ l) × ((ptr y .0 ≡ b) × (ptr y .1 ≡ o)) → (now x ≡ now y) × (ptr x ≡ ptr y)
 by-parts x y p q = (p .0 ∙ sym (q .0), λ i. ((p .1 .0 ∙ sym (q .1 .0)) i, (p .1 .1 ∙ sym (q .1 .1)) i))
 

@@ -3,3 +3,4 @@ pub mod Past
 pub mod Arms
 pub mod Search
 pub mod Laws
+pub mod Determined

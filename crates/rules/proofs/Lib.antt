@@ -7,3 +7,4 @@ pub mod Readings
 pub mod Findings
 pub mod Laws
 pub mod Marked
+pub mod Determined

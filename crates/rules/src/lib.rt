@@ -380,7 +380,7 @@ pub fn read_months(s: &[u8]) -> MonthRead
 }
 
 // Cell i, from 0, of what stands at the places; empty past the last.
-pub fn cell(bytes: &[u8], p: Places, i: usize) -> &[u8]
+fn cell(bytes: &[u8], p: Places, i: usize) -> &[u8]
     ensures { λ r. ⌜ now r ≡ getD (cellsAt (now (bytes .entry)) p) i [] ⌝ }
 {
     if p.count <= i {
