@@ -90,27 +90,30 @@ contentStep file room st len k d p =
     (orderStep file room st len k d (keyPlaces p (st .at)))
 
 -- 11
-unfoldable pub countStep : Text → ℕ → State → ℕ → ℕ → ℕ → Places → Stepped
-countStep file room st len k d p =
+abbrev pub countAt : Text → ℕ → State → ℕ → ℕ → ℕ → Places → Stepped
+countAt file room st len k d p =
     if not (eqb (p .count) (length (rowsOf edition2025 k))) then halt st 11 0 else contentStep file room st len k d p
 
--- 12
-abbrev pub placeAt : Text → ℕ → State → ℕ → ℕ → Places → ℕ → Stepped
-placeAt file room st len k p d = if standsOn st k d then countStep file room st len k d p else halt st 12 1
+unfoldable pub countStep : Text → ℕ → State → ℕ → ℕ → ℕ → Stepped
+countStep file room st len k d = countAt file room st len k d (placesOf (partOf file (st .at) len))
 
-unfoldable pub placeStep : Text → ℕ → State → ℕ → ℕ → Places → Stepped
-placeStep file room st len k p = placeAt file room st len k p (heldAt st k)
+-- 12
+abbrev pub placeAt : Text → ℕ → State → ℕ → ℕ → ℕ → Stepped
+placeAt file room st len k d = if standsOn st k d then countStep file room st len k d else halt st 12 1
+
+unfoldable pub placeStep : Text → ℕ → State → ℕ → ℕ → Stepped
+placeStep file room st len k = placeAt file room st len k (heldAt st k)
 
 -- 9 and 10
-unfoldable pub kindStep : Text → ℕ → State → ℕ → ℕ → Places → Stepped
-kindStep file room st len k p =
-    if eqb k 0 then halt st 9 1 else if isLater k then halt st 10 1 else placeStep file room st len k p
+unfoldable pub kindStep : Text → ℕ → State → ℕ → ℕ → Stepped
+kindStep file room st len k =
+    if eqb k 0 then halt st 9 1 else if isLater k then halt st 10 1 else placeStep file room st len k
 
 -- 8
 unfoldable pub recordStep : Text → ℕ → State → ℕ → Stepped
 recordStep file room st len =
     if endsWith bar (partOf file (st .at) len)
-    then kindStep file room st len (kindOfLine edition2025 (partOf file (st .at) len)) (placesOf (partOf file (st .at) len))
+    then kindStep file room st len (kindOfLine edition2025 (partOf file (st .at) len))
     else halt st 8 0
 
 -- 4, 5 and 6

@@ -473,11 +473,12 @@ fn counted(
     len: usize,
     k: u32,
     d: usize,
-    p: Places,
 ) -> Stepped
-    requires { ⌜ (now names ≡ nameTable) × ((now rows ≡ rowTable) × ((k < 74) × ((d ≤ 4) × (Fits (now file) st len × (p ≡ placesOf (partOf (now file) (st .at) len)))))) ⌝ }
-    ensures { λ r. ⌜ r ≡ countStep (now (file .entry)) room st len k d p ⌝ }
+    requires { ⌜ (now names ≡ nameTable) × ((now rows ≡ rowTable) × ((k < 74) × ((d ≤ 4) × Fits (now file) st len))) ⌝ }
+    ensures { λ r. ⌜ r ≡ countStep (now (file .entry)) room st len k d ⌝ }
 {
+    let at = st.at;
+    let p = fields::places_of(fields::part(file, at, len));
     if p.count != layout::field_count(rows, k) {
         return refuse(st, 11, 0);
     }
@@ -495,14 +496,13 @@ fn placed(
     st: State,
     len: usize,
     k: u32,
-    p: Places,
 ) -> Stepped
-    requires { ⌜ (Lent (now names) (now rows) (now pf) (now pj)) × ((k < 74) × (Fits (now file) st len × (p ≡ placesOf (partOf (now file) (st .at) len)))) ⌝ }
-    ensures { λ r. ⌜ r ≡ placeStep (now (file .entry)) room st len k p ⌝ }
+    requires { ⌜ (Lent (now names) (now rows) (now pf) (now pj)) × ((k < 74) × Fits (now file) st len) ⌝ }
+    ensures { λ r. ⌜ r ≡ placeStep (now (file .entry)) room st len k ⌝ }
 {
     let d = held_at(pf, pj, st, k);
     if stands(st, k, d) {
-        return counted(names, rows, file, room, st, len, k, d, p);
+        return counted(names, rows, file, room, st, len, k, d);
     }
     refuse(st, 12, 1)
 }
@@ -518,10 +518,9 @@ fn kinded(
     st: State,
     len: usize,
     k: u32,
-    p: Places,
 ) -> Stepped
-    requires { ⌜ (Lent (now names) (now rows) (now pf) (now pj)) × ((k < 74) × (Fits (now file) st len × (p ≡ placesOf (partOf (now file) (st .at) len)))) ⌝ }
-    ensures { λ r. ⌜ r ≡ kindStep (now (file .entry)) room st len k p ⌝ }
+    requires { ⌜ (Lent (now names) (now rows) (now pf) (now pj)) × ((k < 74) × Fits (now file) st len) ⌝ }
+    ensures { λ r. ⌜ r ≡ kindStep (now (file .entry)) room st len k ⌝ }
 {
     if k == 0 {
         return refuse(st, 9, 1);
@@ -529,7 +528,7 @@ fn kinded(
     if layout::is_later(k) {
         return refuse(st, 10, 1);
     }
-    placed(names, rows, pf, pj, file, room, st, len, k, p)
+    placed(names, rows, pf, pj, file, room, st, len, k)
 }
 
 // 8
@@ -549,9 +548,8 @@ fn recorded(
     let at = st.at;
     let line = fields::part(file, at, len);
     if ends_in_bar(line) {
-        let p = fields::places_of(line);
         let k = layout::kind_of(names, fields::field(line, 1));
-        return kinded(names, rows, pf, pj, file, room, st, len, k, p);
+        return kinded(names, rows, pf, pj, file, room, st, len, k);
     }
     refuse(st, 8, 0)
 }

@@ -2,12 +2,12 @@
 ghost use mathlib.Core.Path.{_≡_};
 ghost use mathlib.Core.List.{[], _∷_};
 ghost use Prim.Native.Nat.{_+_, _≤_, _<_, min};
-ghost use lib.ListN.{length, drop};
+ghost use lib.ListN.{length, drop, set};
 ghost use denote.Ref.{ptr};
 ghost use Rattle.dirf.specs.Bytes.{same as sameText, less as lessText};
 ghost use Rattle.dirf.specs.FieldReader.{fieldThere, fieldOf, fieldStart};
 ghost use Rattle.dirf.specs.Keys.{keyFields, keyLess};
-ghost use Rattle.fields.specs.Places.{partOf, placeOf, addPlace, placesOf, placesAlong, keyParts, barIn};
+ghost use Rattle.fields.specs.Places.{partOf, placeOf, placesOf, placesAlong, keyParts, barIn};
 
 // Where a field stands in its line.
 pub struct Place {
@@ -180,60 +180,60 @@ pub fn field_there(line: &[u8], k: usize) -> bool
     place_of(line, k).there
 }
 
-// The places with one field more; past the fifteenth only the count goes on.
-fn add_place(p: Places, start: usize, len: usize) -> Places
-    requires { ⌜ p .count < 18446744073709551615 ⌝ }
-    ensures { λ r. ⌜ r ≡ addPlace p start len ⌝ }
+// Notes a number at place n; past the last place nothing is noted.
+fn note(to: &mut [usize], n: usize, v: usize)
+    ensures { λ r. ⌜ now (to .exit) ≡ set (now (to .entry)) n v ⌝ }
 {
-    let mut next = p;
-    let n = p.count;
-    next.count = n + 1;
-    if n < 15 {
-        next.starts[n] = start;
-        next.lens[n] = len;
+    if n < to.len() {
+        to[n] = v;
     }
-    next
 }
 
 // The places of a line's fields, in one walk from bar to bar.
 pub fn places_of(line: &[u8]) -> Places
     ensures { λ r. ⌜ r ≡ placesOf (now (line .entry)) ⌝ }
 {
-    let mut p = Places {
-        count: 0,
-        starts: [0; 15],
-        lens: [0; 15],
-    };
+    let mut count = 0;
+    let mut starts = [0; 15];
+    let mut lens = [0; 15];
     let mut start = 0;
     let mut i = 0;
     while i < line.len() {
         if line[i] == 124 {
-            p = add_place(p, start, i - start);
+            note(&mut starts, count, start);
+            note(&mut lens, count, i - start);
+            count += 1;
             start = i + 1;
         }
         i += 1;
     }
-    p
+    Places {
+        count: count,
+        starts: starts,
+        lens: lens,
+    }
 }
 
 // The places of fields that stand one after another, of these lengths; a start past any integer is the last integer.
 pub fn places_along(lengths: &[usize]) -> Places
     ensures { λ r. ⌜ r ≡ placesAlong (now (lengths .entry)) ⌝ }
 {
-    let mut p = Places {
-        count: 0,
-        starts: [0; 15],
-        lens: [0; 15],
-    };
+    let mut starts = [0; 15];
+    let mut lens = [0; 15];
     let mut at = 0;
     let mut i = 0;
     while i < lengths.len() {
         let n = lengths[i];
-        p = add_place(p, at, n);
+        note(&mut starts, i, at);
+        note(&mut lens, i, n);
         at = capped(at, n);
         i += 1;
     }
-    p
+    Places {
+        count: i,
+        starts: starts,
+        lens: lens,
+    }
 }
 
 // The sum of two numbers, the last integer where it is none.

@@ -471,7 +471,9 @@ pub fn contents_found(bytes: &[u8], p: Places, name: &[u8], rows: &[u8; 5624], k
         if p.count <= i {
             return conditions_found(bytes, p, k);
         }
-        let number = field_rule(name, cell(bytes, p, i), layout::row_at(rows, k, i));
+        // not by `cell`, which takes all places by value
+        let part = fields::part(bytes, p.starts[i], p.lens[i]);
+        let number = field_rule(name, part, layout::row_at(rows, k, i));
         if number != 0 {
             return Finding {
                 number: number,

@@ -1,5 +1,3 @@
-use mathlib.Core.Path.{ap, _∙_}
-use Rattle.fields.specs.Places.{placesOf}
 use Rattle.layout.proofs.Laws.{kind-bound}
 use Rattle.checker.proofs.Lookups.{kind-is}
 use Rattle.checker.specs.Turn.{recordStep}
@@ -13,9 +11,6 @@ part-requires c κs = search needs
 ends-in-bar-requires : tie.Need-ends-in-bar-requires
 ends-in-bar-requires c κs = search needs
 
-places-of-requires : tie.Need-places-of-requires
-places-of-requires c κs = search needs
-
 field-requires : tie.Need-field-requires
 field-requires c κs = search needs
 
@@ -24,19 +19,18 @@ kind-of-requires c κs = search needs
 
 kinded-requires : tie.Need-kinded-requires
 kinded-requires c κs =
-    let p = c .before .before .before .before .before .before .before .pre in
-    (p .0, (rw (c .kind-of .ensures) (kind-bound _ _), (p .1, c .before .before .places-of .ensures ∙ ap placesOf (c .before .before .before .before .before .part .ensures .0))))
+    let p = c .before .before .before .before .before .before .pre in
+    (p .0, (rw (c .kind-of .ensures) (kind-bound _ _), p .1))
 
 returns : tie.Need-returns
 unfolding recordStep
 returns c =
     simp (
       c .kinded .ensures,
-      ← kind-is _ (c .before .before .before .before .before .before .before .before .pre .0 .names-is) (c .before .kind-of .ensures) (c .before .before .field .ensures .0),
-      ← c .before .before .before .places-of .ensures,
-      c .before .before .before .before .if1 .taken,
-      ← c .before .before .before .before .before .ends-in-bar .ensures,
-      ← c .before .before .before .before .before .before .part .ensures .0,
+      ← kind-is _ (c .before .before .before .before .before .before .before .pre .0 .names-is) (c .before .kind-of .ensures) (c .before .before .field .ensures .0),
+      c .before .before .before .if1 .taken,
+      ← c .before .before .before .before .ends-in-bar .ensures,
+      ← c .before .before .before .before .before .part .ensures .0,
     )
 
 refuse-requires : tie.Need-refuse-requires
@@ -58,7 +52,6 @@ recorded-spec =
     (tie.spec
     part-requires
     ends-in-bar-requires
-    places-of-requires
     field-requires
     kind-of-requires
     kinded-requires

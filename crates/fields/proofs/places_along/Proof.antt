@@ -1,37 +1,47 @@
 -- The places along the lengths are what the walk from length i on makes of those noted so far.
 use Prim.Native.Nat.{_≤_, _-_}
-use mathlib.Core.Path.{_≡_, refl, sym, _∙_, ap}
+use mathlib.Core.Path.{_≡_, refl, sym, _∙_}
 use native.Mathlib.Omega.{arith}
-use lib.ListN.{length, drop}
+use borrow.Author.Needs.{needs}
+use lib.ListN.{length, drop, length-set}
+use Rattle.fields.specs.declared.Places.{Places}
 use Rattle.fields.specs.Places.{noPlaces, addPlace, alongFrom, placesAlong}
+use Rattle.fields.proofs.PlaceLaws.{Fifteen}
 use Rattle.fields.proofs.Along.{along-on, along-end}
 use Rattle.fields.proofs.places_along.Statement.{statement}
 use Rattle.fields.proofs.places_along.Tie as tie
 
--- as many places as lengths, so that their number fits
+-- a place a length
 abbrev Inv-loop : tie.InvT-loop
-Inv-loop lengths p₀ at₀ i₀ p at i =
-    ((i ≤ length lengths) × (p .count ≤ i)) × (placesAlong lengths ≡ alongFrom (drop i lengths) at p)
+Inv-loop lengths starts₀ lens₀ at₀ i₀ starts lens at i =
+    let p : Places = record { count = i; starts = starts; lens = lens } in
+    (i ≤ length lengths) × (Fifteen p × (placesAlong lengths ≡ alongFrom (drop i lengths) at p))
 
 abbrev μ-loop : tie.MeasureT-loop
-μ-loop lengths p₀ at₀ i₀ p at i = length lengths - i
+μ-loop lengths starts₀ lens₀ at₀ i₀ starts lens at i = length lengths - i
 
 loop-holds : tie.Need-loop-holds Inv-loop μ-loop
 unfolding placesAlong noPlaces
-loop-holds c = (omega arith, refl)
+loop-holds c = (omega arith, (record { starts = refl; lens = refl }, refl))
 
 loop-again : tie.Need-loop-again Inv-loop μ-loop
 unfolding addPlace
 loop-again c =
-    let l = c .before .before .before .before .loop in
-    let e = c .before .add-place .ensures in
-    let h = c .before .before .before .loop-test .taken in
-    (omega (arith, ap (λ p. p .count) e), l .inv .1 ∙ along-on _ (l .i) (l .at) (l .p) h ∙ cc (e, c .capped .ensures))
+    let s = c .before .before .before .before .before in
+    let l = s .before .before .before .before .loop in
+    let h = s .before .before .before .loop-test .taken in
+    let f = l .inv .1 .0 in (
+      omega arith,
+      (
+        record { starts = rw (s .note .ensures, length-set) (f .starts); lens = rw (c .before .before .note2 .ensures, length-set) (f .lens) },
+        l .inv .1 .1 ∙ along-on _ (l .i) (l .at) _ h ∙ cc (s .note .ensures, c .before .before .note2 .ensures, c .capped .ensures),
+      ),
+    )
 
 returns : tie.Need-returns Inv-loop μ-loop
 returns c =
     let l = c .before .loop in
-    sym (l .inv .1 ∙ along-end _ (l .i) (l .at) (l .p) (c .loop-test .left))
+    sym (l .inv .1 .1 ∙ along-end _ (l .i) (l .at) _ (c .loop-test .left))
 
 pub places-along-spec : {M : Type 1} → statement M
 places-along-spec =
@@ -42,8 +52,11 @@ places-along-spec =
     loop-holds
     (λ c. omega arith)
     (λ c. omega arith)
-    (λ c κs. omega arith)
-    (λ c κs. tt)
+    (λ c. sym (c .before .before .before .loop .inv .1 .0 .starts))
+    (λ c κs. search needs)
+    (λ c. sym (c .before .before .before .before .before .before .loop .inv .1 .0 .lens))
+    (λ c κs. search needs)
+    (λ c κs. search needs)
     (λ c. omega arith)
     (λ c. omega arith)
     loop-again

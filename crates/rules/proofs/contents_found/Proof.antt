@@ -1,4 +1,4 @@
-use Prim.Native.Nat.{ℕ, _+_, _-_, _≤_, _<_}
+use Prim.Native.Nat.{ℕ, _+_, _-_, _≤_, _<_, min}
 use mathlib.Core.Path.{_≡_, refl, sym, _∙_}
 use mathlib.Core.List.{List, []}
 use native.Mathlib.Omega.{arith}
@@ -10,19 +10,19 @@ use Rattle.dirf.specs.Rules.{orElse, askField, askFields}
 use Rattle.layout.specs.Tables.{countIn, rowsIn}
 use Rattle.layout.specs.Codes.{rowCodes, rowSaid}
 use Rattle.layout.proofs.Laws.{rows-length}
-use Rattle.fields.specs.Places.{cellsAt}
-use Rattle.fields.proofs.PlaceLaws.{cells-length}
+use Rattle.fields.specs.Places.{cellAt, cellsAt}
+use Rattle.fields.proofs.PlaceLaws.{cell-at, cells-length}
 use Rattle.rules.specs.Findings.{numberOf, findingOf, contentsFound}
 use Rattle.rules.proofs.Findings.{fields-end, count-most, field-breaks, field-keeps}
 use Rattle.rules.proofs.contents_found.Statement.{statement}
 use Rattle.rules.proofs.contents_found.Tie as tie
 
 abbrev Inv-loop : tie.InvT-loop
-Inv-loop bytes p name rows k n i₀ i =
+Inv-loop bytes name rows k p n i₀ i =
     (i ≤ n) × (askFields 1 fieldOrder name (rowsIn rows k) (cellsAt bytes p) ≡ askFields (i + 1) fieldOrder name (drop i (rowsIn rows k)) (drop i (cellsAt bytes p)))
 
 abbrev μ-loop : tie.MeasureT-loop
-μ-loop bytes p name rows k n i₀ i = n - i
+μ-loop bytes name rows k p n i₀ i = n - i
 
 abbrev start : tie.At-loop Inv-loop μ-loop → tie.Start Inv-loop μ-loop
 start l = l .before .before .before .before
@@ -34,23 +34,28 @@ abbrev name : tie.At-loop Inv-loop μ-loop → Text
 name l = start l .args .name .now
 
 abbrev cells : tie.At-loop Inv-loop μ-loop → List Text
-cells l = cellsAt (start l .args .bytes .now) (start l .args .p)
-
--- the number that is asked of a field is that of its row and its cell
-asked : (c : tie.After-field-rule Inv-loop μ-loop) → let l = c .before .before .before .before .before .before in
-    c .field-rule .result ≡ numberOf (askField 0 fieldOrder (name l) (rowSaid (rowCodes (rows l) (start l .args .k) (l .loop .i))) (getD (cells l) (l .loop .i) []))
-asked c = c .field-rule .ensures ∙ rw (c .before .row-at .ensures, c .before .before .cell .ensures)
+cells l = cellsAt (start l .args .bytes .now) (start l .args .t2)
 
 -- no record has more than fifteen rows, as there are places for no more cells
 few : (l : tie.At-loop Inv-loop μ-loop) → l .before .field-count .result ≤ 15
 few l = rw (l .before .field-count .ensures) (count-most (rows l) (start l .args .k))
 
 -- field i has a row and a cell
-there : (c : tie.After-field-rule Inv-loop μ-loop) → let l = c .before .before .before .before .before .before in
+there : (c : tie.After-field-rule Inv-loop μ-loop) → let l = c .before .before .before .before .before .before .before in
     (l .loop .i < countIn (rows l) (start l .args .k)) × (l .loop .i < length (cells l))
 there c =
-    let l = c .before .before .before .before .before .before in
-    (omega (arith, l .before .field-count .ensures), omega (arith, few l, cells-length (start l .args .bytes .now) (start l .args .p)))
+    let l = c .before .before .before .before .before .before .before in
+    (omega (arith, l .before .field-count .ensures), omega (arith, few l, cells-length (start l .args .bytes .now) (start l .args .t2)))
+
+-- the number that is asked of a field is that of its row and its cell
+asked : (c : tie.After-field-rule Inv-loop μ-loop) → let l = c .before .before .before .before .before .before .before in
+    c .field-rule .result ≡ numberOf (askField 0 fieldOrder (name l) (rowSaid (rowCodes (rows l) (start l .args .k) (l .loop .i))) (getD (cells l) (l .loop .i) []))
+unfolding cellAt
+asked c =
+    let l = c .before .before .before .before .before .before .before in
+    let h : l .loop .i < min 15 (start l .args .t2 .count) = omega (arith, few l) in
+    let p = c .before .before .part .ensures .0 ∙ sym (cell-at (start l .args .bytes .now) (start l .args .t2) (l .loop .i) [] h) in
+    c .field-rule .ensures ∙ rw (c .before .row-at .ensures, p)
 
 pub contents-found-spec : {M : Type 1} → statement M
 unfolding orElse askFields findingOf contentsFound
@@ -63,22 +68,26 @@ contents-found-spec =
     (λ c. (omega arith, refl))
     (λ c κs. search needs)
     (λ c.
-    let l = c .before .before .before .before in
-    let h : length (cells l) ≤ l .loop .i = omega (arith, few l, cells-length (start l .args .bytes .now) (start l .args .p)) in
+    let l = c .before .before .before in
+    let h : length (cells l) ≤ l .loop .i = omega (arith, few l, cells-length (start l .args .bytes .now) (start l .args .t2)) in
     rw (l .loop .inv .1 ∙ fields-end fieldOrder (name l) (rowsIn (rows l) (start l .args .k)) (cells l) (l .loop .i) h) (c .conditions-found .ensures))
+    (λ c. omega (arith, few (c .before .before)))
+    (λ c. omega (arith, few (c .before .before)))
+    (λ c. omega (arith, few (c .before .before .before)))
+    (λ c. omega (arith, few (c .before .before .before)))
     (λ c κs. search needs)
     (λ c κs. search needs)
     (λ c κs. search needs)
-    (λ c. omega (arith, few (c .before .before .before .before .before .before .before)))
-    (λ c. omega (arith, few (c .before .before .before .before .before .before .before)))
+    (λ c. omega (arith, few (c .before .before .before .before .before .before .before .before)))
+    (λ c. omega (arith, few (c .before .before .before .before .before .before .before .before)))
     (λ c.
-    let l = c .before .before .before .before .before .before .before in
+    let l = c .before .before .before .before .before .before .before .before in
     let h = there (c .before) in
     rw (l .loop .inv .1 ∙ field-breaks (rows l) (start l .args .k) (name l) (cells l) (l .loop .i) (h .0) (h .1) (asked (c .before)) (c .if2 .taken)))
     (λ c. omega arith)
     (λ c. omega arith)
     (λ c.
-    let l = c .before .before .before .before .before .before .before in
+    let l = c .before .before .before .before .before .before .before .before in
     let h = there (c .before) in
     (omega arith, l .loop .inv .1 ∙ field-keeps (rows l) (start l .args .k) (name l) (cells l) (l .loop .i) (h .0) (h .1) (asked (c .before)) (c .if2 .left)))
     (λ c κs. search needs)

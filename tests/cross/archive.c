@@ -1,0 +1,231 @@
+/* Holds the C functions of the proved library against the plain checker: archive CASES SEED [wrong].
+   With `wrong` the plain checker's 16 is taken for 15, to see that a difference is found and shown. */
+#include <stdio.h>
+#include <stdlib.h>
+#include <string.h>
+
+#include "../../include/decklesail.h"
+#include "cases.h"
+#include "chance.h"
+#include "closers.h"
+#include "shrink.h"
+#include "sound.h"
+
+enum { NO_LIMIT = 65536 };
+enum { NONE = 99 };
+
+static int wrong;
+static size_t room;
+static unsigned long differences;
+
+typedef struct { uint32_t number, line, field; } answer;
+
+static answer by_library(const uint8_t *file, size_t len)
+{
+    return (answer){decklesail_check_number(file, len, room), decklesail_check_line(file, len, room), decklesail_check_field(file, len, room)};
+}
+
+static answer by_plain(const uint8_t *file, size_t len)
+{
+    plain_answer a = plain_check_room(file, len, room);
+    return (answer){wrong && a.number == 16 ? 15 : a.number, a.line, a.field};
+}
+
+static int same(answer a, answer b)
+{
+    return a.number == b.number && a.line == b.line && a.field == b.field;
+}
+
+static int differs(const uint8_t *file, size_t len)
+{
+    return !same(by_library(file, len), by_plain(file, len));
+}
+
+static void report(uint8_t *file, size_t len)
+{
+    if (++differences > 3)
+        return;
+    shrink(file, &len, differs);
+    answer a = by_library(file, len), b = by_plain(file, len);
+    printf("room %zu: the library says %u %u %u, the plain checker %u %u %u, of this file:\n", room, a.number, a.line, a.field, b.number, b.line, b.field);
+    show(stdout, file, len);
+}
+
+/* Both on one file; gives the library's answer. */
+static answer hold(uint8_t *file, size_t len)
+{
+    answer a = by_library(file, len);
+    if (!same(a, by_plain(file, len)))
+        report(file, len);
+    return a;
+}
+
+static void expect(const char *what, answer a, uint32_t number, uint32_t line, uint32_t field)
+{
+    if (same(a, (answer){number, line, field}))
+        return;
+    differences++;
+    printf("%s: %u %u %u was expected, the library says %u %u %u\n", what, number, line, field, a.number, a.line, a.field);
+}
+
+/* ---- places and amounts */
+
+static void hold_place(const uint8_t *line, size_t len)
+{
+    size_t k = chance(50) ? chance(20) : (size_t)chance64(), start, length;
+    int there = plain_field(line, len, k, &start, &length);
+    if (decklesail_field_there(line, len, k) == (uint32_t)there && decklesail_field_start(line, len, k) == start
+        && decklesail_field_length(line, len, k) == length)
+        return;
+    differences++;
+    printf("field %zu stands elsewhere in:\n", k);
+    show(stdout, line, len);
+}
+
+static void hold_amount(void)
+{
+    uint8_t field[20];
+    size_t len = chance(18);
+    if (len > 0)
+        sound_digits((unsigned)len, field);
+    if (len > 0 && chance(4) == 0)
+        field[chance((uint32_t)len)] = (uint8_t)(chance(2) ? '0' : chance(256));
+    plain_number want = plain_read_amount(field, len);
+    if (decklesail_amount_number(field, len) == want.number && decklesail_amount_value(field, len) == want.value)
+        return;
+    differences++;
+    printf("the amount reader differs on:\n");
+    show(stdout, field, len);
+}
+
+/* ---- demand 3 */
+
+/* A file cut after a whole line: at most four lines close it, or no tail changes the answer. */
+static void hold_cut(file_text *file, met *m)
+{
+    room = NO_LIMIT;
+    cut_at_line(file);
+    answer a = hold(file->bytes, file->len);
+    if (a.number == 0)
+        return;
+    if (a.number == 1) {
+        unsigned more = close_file(file, a.line - 1);
+        expect("a file that is good up to here, closed", hold(file->bytes, file->len), 0, a.line - 1 + more, 0);
+        m->closed++;
+        return;
+    }
+    add_tail(file);
+    expect("a refused file with a tail", hold(file->bytes, file->len), a.number, a.line, a.field);
+    m->fixed++;
+}
+
+/* ---- files that chance does not make */
+
+enum { LONG_LINE = 40, LONG_FILE = 65540 * LONG_LINE };
+
+/* A file of so many lines: people with ever greater CPFs, and FIMDirf where it is closed. */
+static size_t long_file(uint8_t *file, unsigned lines, int closed)
+{
+    size_t len = (size_t)sprintf((char *)file, "Dirf|2025|2024|N||R6GP3ZA|\r\nRESPO|11144477735|ANA LIMA|11|33334444||||\r\n"
+        "DECPF|11144477735|ANA LIMA|N|N|N|S|N|||N|||||\r\nIDREC|0561|\r\n");
+    for (unsigned n = 5; n < lines + !closed; n++)
+        len += (size_t)sprintf((char *)file + len, "BPFDEC|%011u|A||N|N|\r\n", n);
+    return closed ? len + (size_t)sprintf((char *)file + len, "FIMDirf|\r\n") : len;
+}
+
+static size_t with_tail(uint8_t *file, size_t len, const char *tail)
+{
+    memcpy(file + len, tail, strlen(tail));
+    return len + strlen(tail);
+}
+
+/* 65,535 to 65,537 lines: what document 01 says of each, 2 against 3 among them. */
+static unsigned hold_long(met *m)
+{
+    static const struct { unsigned lines; int closed; const char *tail; size_t room; uint32_t number, line; } list[] = {
+        {65535, 1, "", NO_LIMIT, 0, 65535}, {65536, 1, "", NO_LIMIT, 0, 65536}, {65537, 1, "", NO_LIMIT, 3, 65537},
+        {65535, 0, "", NO_LIMIT, 1, 65536}, {65536, 0, "", NO_LIMIT, 1, 65537}, {65537, 0, "", NO_LIMIT, 3, 65537},
+        {65535, 1, "\n", NO_LIMIT, 2, 65536}, {65536, 1, "\n", NO_LIMIT, 2, 65537}, {65536, 1, "FIMDirf|\r\n", NO_LIMIT, 2, 65537},
+        {65536, 0, "F", NO_LIMIT, 3, 65537}, {65536, 0, "\n", NO_LIMIT, 3, 65537}, {65535, 0, "\n", NO_LIMIT, 6, 65536},
+        {65535, 0, "|\r\n", NO_LIMIT, 9, 65536}, {65536, 1, "", 65535, 7, 65536}, {65536, 0, "\r\n", 65535, 7, 65536},
+    };
+    uint8_t *file = malloc(LONG_FILE);
+    if (!file)
+        abort();
+    unsigned count = sizeof list / sizeof *list;
+    for (unsigned i = 0; i < count; i++) {
+        size_t len = with_tail(file, long_file(file, list[i].lines, list[i].closed), list[i].tail);
+        room = list[i].room;
+        expect("a long file", hold(file, len), list[i].number, list[i].line, list[i].number == 9);
+        m->number[list[i].number]++;
+    }
+    free(file);
+    return count;
+}
+
+/* Lines of 1,023 to 1,026 bytes with every end, and what they are of. */
+static unsigned hold_edges(met *m)
+{
+    static const char *const ends[] = {"", "\r", "\n", "\r\n", "\n\r", "\r\r\n", "\r\nFIMDirf|\r\n"};
+    static const char *const begins[] = {"", "Dirf|", "Dirf|2025|2024|N||R6GP3ZA|\r\nRESPO|11144477735|"};
+    uint8_t file[1200];
+    unsigned count = 0;
+    room = NO_LIMIT;
+    for (unsigned b = 0; b < 3; b++)
+        for (unsigned len = 1023; len <= 1026; len++)
+            for (unsigned e = 0; e < 7 * 2; e++, count++) {
+                size_t at = b == 2 ? 28 : 0, used = with_tail(file, 0, begins[b]);
+                memset(file + used, 'A', at + len - used);
+                file[at + len - 1] = e % 2 ? '|' : 'A';
+                m->number[hold(file, with_tail(file, at + len, ends[e / 2])).number]++;
+            }
+    return count;
+}
+
+/* The empty file, every file of one byte, and those of two with a bar, CR or LF and any other byte. */
+static unsigned hold_tiny(met *m)
+{
+    uint8_t file[2];
+    room = NO_LIMIT;
+    m->number[hold(file, 0).number]++;
+    for (unsigned i = 0; i < 3 * 256; i++) {
+        file[0] = (uint8_t)i;
+        file[1] = (uint8_t)"|\r\n"[i / 256];
+        m->number[hold(file, 1).number]++;
+        m->number[hold(file, 2).number]++;
+        file[0] = file[1];
+        file[1] = (uint8_t)i;
+        m->number[hold(file, 2).number]++;
+    }
+    return 1 + 3 * 3 * 256;
+}
+
+/* ---- the run */
+
+static void hold_case(uint64_t seed, met *m)
+{
+    static declaration d;
+    static file_text file;
+    plan p = make_file(seed, &d, &file);
+    room = chance(4) ? NO_LIMIT : chance(d.count + 2);
+    uint32_t number = hold(file.bytes, file.len).number;
+    count_case(m, &d, p, number);
+    size_t from = chance((uint32_t)file.len + 1);
+    hold_place(file.bytes + from, chance((uint32_t)(file.len - from) + 1) % 400);
+    hold_amount();
+    if (chance(8) == 0)
+        hold_cut(&file, m);
+}
+
+int main(int argc, char **argv)
+{
+    static met m;
+    unsigned long cases = argc > 1 ? strtoul(argv[1], NULL, 10) : 1000, more;
+    uint64_t seed = argc > 2 ? strtoull(argv[2], NULL, 10) : 1;
+    wrong = argc > 3 && strcmp(argv[3], "wrong") == 0;
+    for (unsigned long i = 0; i < cases; i++)
+        hold_case(seed * UINT64_C(0x100000000) + i, &m);
+    more = hold_long(&m) + hold_edges(&m) + hold_tiny(&m);
+    print_met("archive", cases + more, differences, &m);
+    return differences != 0 || !all_met(&m, 21, NONE);
+}

@@ -1,0 +1,44 @@
+/* A declaration as a list of lines, and as the bytes of a file. */
+#ifndef DECLARATION_H
+#define DECLARATION_H
+
+#include <stddef.h>
+#include <stdint.h>
+
+#include "../plain/plain.h"
+
+enum { MOST_LINES = 80, MOST_BYTES = 1200, MOST_FILE = 1 << 17 };
+
+/* One line: its kind when it was made, its bytes, and what ends it. */
+typedef struct {
+    unsigned kind, len, end_len;
+    uint8_t bytes[MOST_BYTES], end[4];
+} text_line;
+
+typedef struct {
+    unsigned declarant, count;
+    text_line line[MOST_LINES];
+} declaration;
+
+typedef struct {
+    size_t len;
+    uint8_t bytes[MOST_FILE];
+} file_text;
+
+/* Field f of a line, from 1: 1 and its place, or 0. */
+int find_field(const text_line *line, unsigned f, unsigned *start, unsigned *len);
+
+/* Puts other contents into field f, if the line has one. */
+void set_field(text_line *line, unsigned f, const void *contents, unsigned len);
+
+void set_end(text_line *line, const char *end);
+
+/* Makes room for a line at place `at`, if there is any left, and gives it. */
+text_line *insert_line(declaration *d, unsigned at);
+
+void remove_line(declaration *d, unsigned at);
+
+/* The file that the lines make. */
+void write_file(const declaration *d, file_text *file);
+
+#endif

@@ -1,0 +1,369 @@
+#include "faults.h"
+
+#include <string.h>
+
+#include "../plain/plain_inner.h"
+#include "chance.h"
+#include "sound.h"
+
+static text_line *any_line(declaration *d)
+{
+    return &d->line[chance(d->count)];
+}
+
+static int is_obligatory(const plain_row *r) { return r->obligatory; }
+static int is_number(const plain_row *r) { return r->format != 'C'; }
+static int is_any(const plain_row *r) { return r->size > 0; }
+static int has_no_zero_in_front(const plain_row *r) { return r->amount || r->months || r->ddd; }
+static int is_date(const plain_row *r) { return r->format == 'D'; }
+static int has_values(const plain_row *r) { return r->values != NULL; }
+
+/* A field past the identifier, of some line, that has what is wanted. */
+static text_line *any_field(declaration *d, int (*wanted)(const plain_row *), unsigned *f, plain_row *row)
+{
+    for (unsigned tries = 0; tries < 100; tries++) {
+        text_line *line = any_line(d);
+        unsigned count = plain_fields(line->kind);
+        if (count < 2)
+            continue;
+        *f = 2 + chance(count - 1);
+        *row = plain_field_row(line->kind, *f);
+        if (wanted(row))
+            return line;
+    }
+    return NULL;
+}
+
+/* A line whose kind has this role, and its place. */
+static text_line *any_of_role(declaration *d, int first, int last, unsigned *at)
+{
+    for (unsigned tries = 0; tries < 100; tries++) {
+        *at = chance(d->count);
+        int role = plain_records[d->line[*at].kind].role;
+        if (first <= role && role <= last)
+            return &d->line[*at];
+    }
+    return NULL;
+}
+
+static int repeat_line(declaration *d, unsigned at)
+{
+    text_line copy = d->line[at], *line = insert_line(d, at + 1);
+    if (line)
+        *line = copy;
+    return line != NULL;
+}
+
+/* 1: the lines from some place on are missing. */
+static int not_closed(declaration *d)
+{
+    d->count = chance(3) ? d->count - 1 : chance(d->count);
+    return 1;
+}
+
+/* 2: a line, or only its end, after the last one. */
+static int after_the_end(declaration *d)
+{
+    text_line *line = insert_line(d, d->count);
+    if (!line)
+        return 0;
+    sound_line(line, 1 + chance(FIMDIRF));
+    if (chance(2))
+        line->len = chance(2);
+    set_end(line, chance(2) ? "\r\n" : chance(2) ? "\n" : "");
+    return 1;
+}
+
+/* 4: a line of 1,023 to 1,026 bytes. */
+static int too_long(declaration *d)
+{
+    static uint8_t filler[MOST_BYTES];
+    text_line *line = any_line(d);
+    unsigned want = 1023 + chance(4), f = 1 + chance(4), start, len;
+    memset(filler, chance(2) ? 'A' : '0', sizeof filler);
+    if (!find_field(line, f, &start, &len) || line->len > want)
+        return 0;
+    set_field(line, f, filler, len + want - line->len);
+    return 1;
+}
+
+/* 5: the file ends within a line or its end. */
+static int cut_short(declaration *d)
+{
+    d->count = 1 + chance(d->count);
+    text_line *line = &d->line[d->count - 1];
+    if (chance(2))
+        line->len = chance(line->len + 1);
+    set_end(line, chance(2) ? "\r" : "");
+    return 1;
+}
+
+/* 6: another line end, or one within the line. */
+static int wrong_end(declaration *d)
+{
+    static const char *const ends[] = {"\r", "\n", "\n\r", "\r\r\n", "\n\n"};
+    text_line *line = any_line(d);
+    if (chance(2) || line->len == 0)
+        set_end(line, ends[chance(5)]);
+    else
+        line->bytes[chance(line->len)] = chance(2) ? '\r' : '\n';
+    return 1;
+}
+
+/* 8: an empty line, or one that ends in no bar. */
+static int no_last_bar(declaration *d)
+{
+    text_line *line = any_line(d);
+    if (chance(4) == 0 || line->len == 0)
+        line->len = 0;
+    else if (chance(2))
+        line->len--;
+    else
+        line->bytes[line->len++] = 'A';
+    return 1;
+}
+
+/* 9: another identifier; the three misprints of the layout among them. */
+static int unknown(declaration *d)
+{
+    static const char *const others[] = {"BPFRRRA", "BPFICI", "QTMESSES", "DIRF", "FIMDIRF", "", " IDREC", "R", "RTRTR"};
+    text_line *line = any_line(d);
+    if (chance(2)) {
+        const char *other = others[chance(9)];
+        set_field(line, 1, other, (unsigned)strlen(other));
+    } else if (line->len > 0) {
+        line->bytes[0] ^= 32;
+    }
+    return 1;
+}
+
+/* 10: a record that is left for later, in a line's place or before it. */
+static int left_for_later(declaration *d)
+{
+    unsigned kind, at = chance(d->count);
+    do
+        kind = 1 + chance(KINDS);
+    while (plain_is_base(kind));
+    if (chance(2) && insert_line(d, at))
+        sound_line(&d->line[at], BPFSCP);
+    set_field(&d->line[at], 1, plain_name(kind), (unsigned)strlen(plain_name(kind)));
+    return 1;
+}
+
+/* 11: a bar more or less. */
+static int wrong_count(declaration *d)
+{
+    text_line *line = any_line(d);
+    unsigned start, len, f = 1 + chance(plain_fields(line->kind));
+    if (!find_field(line, f, &start, &len))
+        return 0;
+    if (chance(2))
+        set_field(line, f, "|", 1);
+    else if (start + len + 1 < line->len)
+        memmove(line->bytes + start + len, line->bytes + start + len + 1, --line->len - start - len);
+    return 1;
+}
+
+/* 12: a record put in, taken out, or in another's place. */
+static int misplaced(declaration *d)
+{
+    unsigned at = chance(d->count), other = chance(d->count), kind;
+    if (chance(3) == 0) {
+        remove_line(d, at);
+        return 1;
+    }
+    if (chance(2)) {
+        text_line line = d->line[at];
+        d->line[at] = d->line[other];
+        d->line[other] = line;
+        return 1;
+    }
+    do
+        kind = 1 + chance(KINDS);
+    while (!plain_is_base(kind));
+    if (!insert_line(d, at))
+        return 0;
+    sound_line(&d->line[at], kind);
+    return 1;
+}
+
+/* 13 */
+static int emptied(declaration *d)
+{
+    unsigned f;
+    plain_row row;
+    text_line *line = any_field(d, is_obligatory, &f, &row);
+    if (line)
+        set_field(line, f, "", 0);
+    return line != NULL;
+}
+
+/* 14: one byte that is no digit, or a mask. */
+static int wrong_byte(declaration *d)
+{
+    unsigned f;
+    plain_row row;
+    uint8_t text[64];
+    text_line *line = any_field(d, is_number, &f, &row);
+    if (!line)
+        return 0;
+    if (chance(3) == 0) {
+        set_field(line, f, "111.444.777-35", 14);
+        return 1;
+    }
+    unsigned len = sound_digits(row.fixed ? row.size : 1 + chance(row.size), text);
+    text[chance(len)] = (uint8_t)"./:-, AS\0\x80\xff"[chance(11)];
+    set_field(line, f, text, len);
+    return 1;
+}
+
+/* 15: a byte more than the size, or another length by chance. */
+static int wrong_size(declaration *d)
+{
+    unsigned f;
+    plain_row row;
+    uint8_t text[256];
+    text_line *line = any_field(d, is_any, &f, &row);
+    if (!line)
+        return 0;
+    unsigned len = chance(2) ? row.size + 1 : 1 + chance(row.size + 3);
+    memset(text, 'A', sizeof text);
+    if (row.format != 'C')
+        sound_digits(len, text);
+    set_field(line, f, text, len);
+    return 1;
+}
+
+/* 16 */
+static int zero_in_front(declaration *d)
+{
+    unsigned f;
+    plain_row row;
+    uint8_t text[64];
+    text_line *line = any_field(d, has_no_zero_in_front, &f, &row);
+    if (!line)
+        return 0;
+    unsigned len = sound_digits(row.ddd ? 2 : 1 + chance(row.size), text);
+    text[0] = '0';
+    set_field(line, f, text, len);
+    return 1;
+}
+
+/* 17 */
+static int no_such_date(declaration *d)
+{
+    static const char *const dates[] = {"20230229", "19000229", "21000101", "18991231", "20240431", "20241301", "20240001", "20240100", "20240230", "00000000"};
+    unsigned f;
+    plain_row row;
+    uint8_t text[64];
+    text_line *line = any_field(d, is_date, &f, &row);
+    if (!line)
+        return 0;
+    sound_digits(8, text);
+    set_field(line, f, chance(3) ? (const void *)dates[chance(10)] : text, 8);
+    return 1;
+}
+
+/* 18: as long as a value, of the same format, and seldom one of them. */
+static int no_such_value(declaration *d)
+{
+    unsigned f;
+    plain_row row;
+    uint8_t text[64];
+    text_line *line = any_field(d, has_values, &f, &row);
+    if (!line)
+        return 0;
+    sound_digits(row.size, text);
+    if (row.format == 'C')
+        text[chance(row.size)] = (uint8_t)('A' + chance(26));
+    set_field(line, f, text, row.size);
+    return 1;
+}
+
+/* 19: field 8 of DECPF is S, and the others by chance. */
+static int broken_condition(declaration *d)
+{
+    if (d->declarant != DECPF || d->count < 3)
+        return 0;
+    text_line *line = &d->line[2];
+    set_field(line, 8, "S", 1);
+    set_field(line, 9, "20240301", chance(2) ? 8 : 0);
+    set_field(line, 10, chance(2) ? "1" : "2", chance(3) ? 1 : 0);
+    set_field(line, 11, chance(2) ? "S" : "N", 1);
+    set_field(line, 13, chance(2) ? "0" : "1", chance(2) ? 1 : 0);
+    return 1;
+}
+
+/* 20: a record with a key twice, or with another key that is hardly ever greater. */
+static int not_greater(declaration *d)
+{
+    unsigned at, start, len;
+    uint8_t text[64];
+    text_line *line = any_of_role(d, CODE, BENEFICIARY, &at);
+    if (!line)
+        return 0;
+    if (chance(2) || !find_field(line, 2, &start, &len) || len == 0 || len > sizeof text)
+        return repeat_line(d, at);
+    memset(text, '0', len);
+    text[len - 1] = (uint8_t)('0' + chance(3));
+    set_field(line, 2, text, len);
+    return 1;
+}
+
+/* 21 */
+static int repeated(declaration *d)
+{
+    unsigned at;
+    return any_of_role(d, VALUE, VALUE, &at) && repeat_line(d, at);
+}
+
+static int (*const breakers[])(declaration *) = {
+    [1] = not_closed, [2] = after_the_end, [4] = too_long, [5] = cut_short, [6] = wrong_end, [8] = no_last_bar,
+    [9] = unknown, [10] = left_for_later, [11] = wrong_count, [12] = misplaced, [13] = emptied, [14] = wrong_byte,
+    [15] = wrong_size, [16] = zero_in_front, [17] = no_such_date, [18] = no_such_value, [19] = broken_condition,
+    [20] = not_greater, [21] = repeated,
+};
+
+int can_break(unsigned number)
+{
+    return number < sizeof breakers / sizeof *breakers && breakers[number] != NULL;
+}
+
+int break_rule(declaration *d, unsigned number)
+{
+    return can_break(number) && d->count > 0 && breakers[number](d);
+}
+
+static void put_byte(file_text *file, size_t at, uint8_t byte)
+{
+    memmove(file->bytes + at + 1, file->bytes + at, file->len - at);
+    file->bytes[at] = byte;
+    file->len++;
+}
+
+void damage_bytes(file_text *file)
+{
+    if (file->len == 0 || file->len == MOST_FILE)
+        return;
+    size_t at = chance((uint32_t)file->len);
+    switch (chance(6)) {
+    case 0:
+        file->bytes[at] = (uint8_t)chance(256);
+        break;
+    case 1:
+        file->bytes[at] = (uint8_t)"|\r\n0SN .\0\xc3"[chance(10)];
+        break;
+    case 2:
+        file->len--;
+        memmove(file->bytes + at, file->bytes + at + 1, file->len - at);
+        break;
+    case 3:
+        put_byte(file, at, file->bytes[at]);
+        break;
+    case 4:
+        put_byte(file, at, (uint8_t)"|\r\n09A\0\x80"[chance(8)]);
+        break;
+    default:
+        file->len = at;
+    }
+}

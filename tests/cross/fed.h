@@ -1,0 +1,30 @@
+/* Cases for the program replay (docs/REPLAY.md), and the line that the plain checker demands of each. */
+#ifndef FED_H
+#define FED_H
+
+#include <stdint.h>
+#include <stdio.h>
+
+#include "cases.h"
+
+enum { MOST_TABLE = 12003, MOST_ROOM = 4096, MOST_STRING = 65536, MOST_LENGTHS = 32 };
+
+/* One case. `judged` is how many of its bytes the demanded answer is worked out from: all, or the part that a tail follows. */
+typedef struct {
+    char letter;
+    uint64_t number, room;
+    size_t len, judged, count;
+    uint64_t lengths[MOST_LENGTHS];
+    uint8_t bytes[MOST_FILE];
+} fed;
+
+/* Makes the case of this seed; counts what it meets. */
+void make_fed(uint64_t seed, fed *c, met *m);
+
+/* The case as replay reads it. */
+void write_fed(FILE *out, const fed *c);
+
+/* The line that is demanded, with its LF; gives the first number in it. */
+unsigned demand_line(FILE *out, const fed *c);
+
+#endif

@@ -1,0 +1,99 @@
+#include <stdlib.h>
+#include <string.h>
+
+#include "fed.h"
+
+static void put_number(FILE *out, uint64_t n)
+{
+    for (unsigned i = 0; i < 8; i++)
+        fputc((int)(n >> (8 * i) & 255), out);
+}
+
+static void put_string(FILE *out, const fed *c)
+{
+    put_number(out, c->len);
+    fwrite(c->bytes, 1, c->len, out);
+}
+
+void write_fed(FILE *out, const fed *c)
+{
+    fputc(c->letter, out);
+    if (strchr("CWFam", c->letter))
+        put_number(out, c->number);
+    if (strchr("Wam", c->letter))
+        put_number(out, c->room);
+    if (strchr("CWFAM", c->letter))
+        put_string(out, c);
+    if (c->letter != 'W')
+        return;
+    put_number(out, c->count);
+    for (size_t i = 0; i < c->count; i++)
+        put_number(out, c->lengths[i]);
+}
+
+static void put_hex(FILE *out, const uint8_t *bytes, size_t len)
+{
+    if (len > 0)
+        fputc(' ', out);
+    for (size_t i = 0; i < len; i++)
+        fprintf(out, "%02x", bytes[i]);
+}
+
+static unsigned demand_check(FILE *out, const fed *c)
+{
+    static uint32_t table[MOST_TABLE];
+    plain_answer a = plain_check(c->bytes, c->judged, table, c->number);
+    fprintf(out, "%u %u %u %zu 1", a.number, a.line, a.field, a.entries);
+    for (size_t i = 0; i < 4 * a.entries; i++)
+        fprintf(out, " %u", table[i]);
+    return a.number;
+}
+
+static unsigned demand_written(FILE *out, const fed *c)
+{
+    static uint8_t written[MOST_ROOM];
+    size_t lengths[MOST_LENGTHS];
+    plain_written w;
+    for (size_t i = 0; i < c->count; i++)
+        lengths[i] = c->lengths[i];
+    if (c->letter == 'W')
+        w = plain_write_line((uint32_t)c->number, c->bytes, c->len, lengths, c->count, written, c->room);
+    else if (c->letter == 'a')
+        w = plain_write_amount(c->number, written, c->room);
+    else
+        w = plain_write_months(c->number, written, c->room);
+    if (c->letter == 'W')
+        fprintf(out, "%u %u %zu 1", w.number, w.field, w.count);
+    else
+        fprintf(out, "%u %zu 1", w.number, w.count);
+    put_hex(out, written, w.count);
+    return w.number;
+}
+
+static unsigned demand_place(FILE *out, const fed *c)
+{
+    size_t start, length;
+    int there = plain_field(c->bytes, c->len, c->number, &start, &length);
+    fprintf(out, "%d %zu %zu", there, start, length);
+    return 0;
+}
+
+static unsigned demand_value(FILE *out, const fed *c)
+{
+    plain_number n = c->letter == 'A' ? plain_read_amount(c->bytes, c->len) : plain_read_months(c->bytes, c->len);
+    fprintf(out, "%u %llu", n.number, (unsigned long long)n.value);
+    return n.number;
+}
+
+unsigned demand_line(FILE *out, const fed *c)
+{
+    unsigned number;
+    switch (c->letter) {
+    case 'C': number = demand_check(out, c); break;
+    case 'F': number = demand_place(out, c); break;
+    case 'A': case 'M': number = demand_value(out, c); break;
+    default: number = demand_written(out, c);
+    }
+    fputc('\n', out);
+    return number;
+}

@@ -1,0 +1,129 @@
+/* Feeds the program replay and holds every line that it prints against the plain checker: replay CASES SEED FOLDER COMMAND [wrong].
+   With `wrong` a printed 16 is taken for 15, to see that a difference is found and shown. */
+#include <stdlib.h>
+#include <string.h>
+
+#include "fed.h"
+#include "shrink.h"
+
+enum { BATCH = 2000, MOST_LINE = 1 << 18 };
+
+static const char *folder, *command;
+static int wrong;
+static unsigned long differences;
+static fed now;
+static char got[MOST_LINE], want[MOST_LINE];
+
+static FILE *open_file(const char *name, const char *mode)
+{
+    char path[4096];
+    snprintf(path, sizeof path, "%s/%s", folder, name);
+    FILE *f = fopen(path, mode);
+    if (!f) {
+        perror(path);
+        exit(2);
+    }
+    return f;
+}
+
+static void run_replay(void)
+{
+    char line[16384];
+    snprintf(line, sizeof line, "%s < %s/cases > %s/got", command, folder, folder);
+    if (system(line) != 0) {
+        fprintf(stderr, "replay did not end well: %s\n", line);
+        exit(2);
+    }
+}
+
+/* The next line of both; 1 while either has one. */
+static int next_lines(FILE *printed, FILE *demanded)
+{
+    if (!fgets(got, MOST_LINE, printed))
+        got[0] = 0;
+    if (!fgets(want, MOST_LINE, demanded))
+        want[0] = 0;
+    if (wrong && strncmp(got, "16 ", 3) == 0)
+        got[1] = '5';
+    return got[0] != 0 || want[0] != 0;
+}
+
+/* Runs what is in the file of cases; gives the first case that differs, or -1. */
+static long first_difference(void)
+{
+    run_replay();
+    FILE *printed = open_file("got", "rb"), *demanded = open_file("want", "rb");
+    long at = -1, i = 0;
+    while (at < 0 && next_lines(printed, demanded)) {
+        if (strcmp(got, want) != 0)
+            at = i;
+        i++;
+    }
+    fclose(printed);
+    fclose(demanded);
+    return at;
+}
+
+/* The case at hand, with these bytes. */
+static int differs(const uint8_t *bytes, size_t len)
+{
+    memmove(now.bytes, bytes, len);
+    now.len = now.judged = len;
+    FILE *cases = open_file("cases", "wb"), *demanded = open_file("want", "wb");
+    write_fed(cases, &now);
+    demand_line(demanded, &now);
+    fclose(cases);
+    fclose(demanded);
+    return first_difference() >= 0;
+}
+
+static void report(uint64_t seed)
+{
+    static met ignored;
+    static uint8_t bytes[MOST_FILE];
+    make_fed(seed, &now, &ignored);
+    size_t len = now.len;
+    memcpy(bytes, now.bytes, len);
+    /* a line's contents and their lengths, and a file and its tail, belong together: these are shown as they are */
+    if (now.letter != 'W' && now.judged == now.len) {
+        shrink(bytes, &len, differs);
+        differs(bytes, len);
+    }
+    printf("case %llu, %c %llu %llu: replay prints\n%sbut the plain checker demands\n%sof these bytes:\n", (unsigned long long)seed, now.letter,
+        (unsigned long long)now.number, (unsigned long long)now.room, got, want);
+    show(stdout, bytes, len);
+    differences++;
+}
+
+static void run_batch(uint64_t seed, unsigned long count, met *m)
+{
+    FILE *cases = open_file("cases", "wb"), *demanded = open_file("want", "wb");
+    for (unsigned long i = 0; i < count; i++) {
+        make_fed(seed + i, &now, m);
+        write_fed(cases, &now);
+        unsigned number = demand_line(demanded, &now);
+        m->number[number] += now.letter != 'C';
+    }
+    fclose(cases);
+    fclose(demanded);
+    long at = first_difference();
+    if (at >= 0)
+        report(seed + (uint64_t)at);
+}
+
+int main(int argc, char **argv)
+{
+    static met m;
+    if (argc < 5)
+        return 2;
+    unsigned long cases = strtoul(argv[1], NULL, 10);
+    uint64_t seed = strtoull(argv[2], NULL, 10) << 32;
+    folder = argv[3];
+    command = argv[4];
+    wrong = argc > 5 && strcmp(argv[5], "wrong") == 0;
+    /* after a difference the rest says little more */
+    for (unsigned long i = 0; i < cases && differences == 0; i += BATCH)
+        run_batch(seed + i, cases - i < BATCH ? cases - i : BATCH, &m);
+    print_met("replay", cases, differences, &m);
+    return differences != 0 || !all_met(&m, 24, 3);
+}

@@ -1,0 +1,19 @@
+/* Whole declarations: lines, fields, places and order as document 01 has them. */
+#ifndef SOUND_H
+#define SOUND_H
+
+#include "declaration.h"
+
+/* Contents that the row allows; gives their length. */
+unsigned sound_field(const plain_row *row, uint8_t *out);
+
+/* So many digits, the first no zero. */
+unsigned sound_digits(unsigned count, uint8_t *out);
+
+/* A line of a base kind with sound contents. */
+void sound_line(text_line *line, unsigned kind);
+
+/* An accepted declaration of some three to seventy lines. */
+void sound_declaration(declaration *d);
+
+#endif
