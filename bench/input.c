@@ -1,0 +1,137 @@
+/* Makes the files that are measured, the same bytes each time. */
+#include "input.h"
+
+#include <stdio.h>
+#include <stdlib.h>
+#include <string.h>
+
+enum { HEAD_LINES = 4, LEAST_LINES = 5, MOST_LINES = 65536 };
+/* no line made here is longer */
+enum { LONGEST = 256 };
+enum { MONTHS = 13, CPF_DIGITS = 11, AMOUNT_DIGITS = 13 };
+
+static const char head[] =
+    "Dirf|2025|2024|N||R6GP3ZA|\r\n"
+    "RESPO|11144477735|ANA LIMA|11|33334444||||\r\n"
+    "DECPJ|11222333000181|SERRA LTDA|0|11144477735|N|N|N|N|N|N|N|N||\r\n"
+    "IDREC|0561|\r\n";
+
+/* 60 bytes, the most that a name may have */
+static const char long_name[] = "MARIA APARECIDA DOS SANTOS ALBUQUERQUE DE OLIVEIRA E BARROSO";
+_Static_assert(sizeof long_name == 61, "a name of 60 bytes");
+
+/* One beneficiary's records of thirteen amounts; the beneficiary stands before them and a RIO after them. */
+static const char *const long_values[] = {"RTRT", "RTPO", "RTDP", "RTIRF", "ESRT", "ESIR"};
+enum { LONG_GROUP = sizeof long_values / sizeof *long_values + 2 };
+enum { SHORT_GROUP = 4 };
+
+static void stop(const char *what)
+{
+    fprintf(stderr, "input: %s\n", what);
+    exit(2);
+}
+
+static void put(input *in, const char *text)
+{
+    size_t n = strlen(text);
+    memcpy(in->bytes + in->len, text, n);
+    in->len += n;
+}
+
+static void put_digits(input *in, uint64_t value, unsigned count)
+{
+    for (unsigned i = count; i > 0; i--) {
+        in->bytes[in->len + i - 1] = (uint8_t)('0' + value % 10);
+        value /= 10;
+    }
+    in->len += count;
+}
+
+/* 13 digits without a zero in front; a fixed series, so that the bytes are the same each time. */
+static void put_amount(input *in)
+{
+    static uint64_t series = 1;
+    series = series * 6364136223846793005u + 1442695040888963407u;
+    put_digits(in, 1000000000000u + (series >> 16) % 9000000000000u, AMOUNT_DIGITS);
+}
+
+/* Ever greater CPFs. */
+static void put_beneficiary(input *in, unsigned number, const char *name, const char *birth)
+{
+    put(in, "BPFDEC|");
+    put_digits(in, number + 1, CPF_DIGITS);
+    put(in, "|");
+    put(in, name);
+    put(in, "|");
+    put(in, birth);
+    put(in, "|N|N|\r\n");
+}
+
+static void put_short(input *in, unsigned i)
+{
+    switch (i % SHORT_GROUP) {
+    case 0: put_beneficiary(in, i / SHORT_GROUP, "ANA", ""); break;
+    case 1: put(in, "RTRT|150000|||||||||||||\r\n"); break;
+    case 2: put(in, "RTIRF||9050||||||||||||\r\n"); break;
+    default: put(in, "RIJMRE|1|\r\n"); break;
+    }
+}
+
+static void put_long_values(input *in, const char *name)
+{
+    put(in, name);
+    for (unsigned i = 0; i < MONTHS; i++) {
+        put(in, "|");
+        put_amount(in);
+    }
+    put(in, "|\r\n");
+}
+
+static void put_long_text(input *in)
+{
+    put(in, "RIO|");
+    put_amount(in);
+    put(in, "|");
+    put(in, long_name);
+    put(in, "|\r\n");
+}
+
+static void put_long(input *in, unsigned i)
+{
+    unsigned at = i % LONG_GROUP;
+    if (at == 0)
+        put_beneficiary(in, i / LONG_GROUP, long_name, "19800229");
+    else if (at == LONG_GROUP - 1)
+        put_long_text(in);
+    else
+        put_long_values(in, long_values[at - 1]);
+}
+
+/* 1 for the second word, 0 for the first. */
+static int second(const char *word, const char *a, const char *b)
+{
+    if (strcmp(word, a) != 0 && strcmp(word, b) != 0)
+        stop("a word that is not known");
+    return strcmp(word, b) == 0;
+}
+
+input input_make(const char *lines, const char *shape, const char *end)
+{
+    int is_long = second(shape, "short", "long"), refused = second(end, "accepted", "refused");
+    unsigned long count = strtoul(lines, NULL, 10);
+    if (count < LEAST_LINES || count > MOST_LINES)
+        stop("no such count of lines");
+    input in = {malloc(count * LONGEST), 0};
+    if (in.bytes == NULL)
+        stop("no memory");
+    put(&in, head);
+    for (unsigned i = 0; i < count - HEAD_LINES - 1; i++) {
+        if (is_long)
+            put_long(&in, i);
+        else
+            put_short(&in, i);
+    }
+    /* without its bar the last line is refused with 8 */
+    put(&in, refused ? "FIMDirf\r\n" : "FIMDirf|\r\n");
+    return in;
+}

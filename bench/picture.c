@@ -1,0 +1,135 @@
+/* Draws the measured figures as an SVG: the three calls side by side, and the archive at three sizes. */
+#include "picture.h"
+
+#include <math.h>
+
+enum { WIDTH = 860, HEIGHT = 700, LEFT = 80, RIGHT = 840, PLOT = 190, BARS = 3, STEPS = 4 };
+enum { BAR_WIDTH = 46, BAR_STEP = 52 };
+
+/* One chart: three bars for each input, with what to call them. */
+typedef struct {
+    const char *title;
+    const char *legend[BARS];
+    const char *colour[BARS];
+    double value[INPUTS][BARS];
+    char under[INPUTS][48];
+    int top;
+} chart;
+
+static void text(FILE *to, double x, double y, const char *more, const char *what)
+{
+    fprintf(to, "<text x=\"%.1f\" y=\"%.1f\" %s>%s</text>\n", x, y, more, what);
+}
+
+/* 1, 2, 2.5 or 5 times a power of ten: the least step that reaches over the highest bar. */
+static double step_over(double most)
+{
+    static const double steps[] = {1, 2, 2.5, 5, 10};
+    double ten = pow(10, floor(log10(most / STEPS)));
+    for (unsigned i = 0; i < sizeof steps / sizeof *steps; i++)
+        if (steps[i] * ten * STEPS >= most)
+            return steps[i] * ten;
+    return 10 * ten;
+}
+
+static double highest(const chart *c)
+{
+    double most = 1;
+    for (int i = 0; i < INPUTS; i++)
+        for (int b = 0; b < BARS; b++)
+            most = fmax(most, c->value[i][b]);
+    return most;
+}
+
+static void draw_axis(FILE *to, const chart *c, double step)
+{
+    char label[32], turned[64];
+    for (int i = 0; i <= STEPS; i++) {
+        double y = c->top + PLOT - (double)PLOT * i / STEPS;
+        fprintf(to, "<line x1=\"%d\" y1=\"%.1f\" x2=\"%d\" y2=\"%.1f\" stroke=\"%s\"/>\n", LEFT, y, RIGHT, y, i ? "#ddd" : "#333");
+        snprintf(label, sizeof label, "%.0f", step * i);
+        text(to, LEFT - 8, y + 4, "text-anchor=\"end\"", label);
+    }
+    double middle = c->top + PLOT / 2.0;
+    snprintf(turned, sizeof turned, "text-anchor=\"middle\" transform=\"rotate(-90 24 %.1f)\"", middle);
+    text(to, 24, middle, turned, "instructions per line");
+}
+
+static void draw_legend(FILE *to, const chart *c)
+{
+    for (int b = 0; b < BARS; b++) {
+        double x = LEFT + 130.0 * b, y = c->top - 34;
+        fprintf(to, "<rect x=\"%.1f\" y=\"%.1f\" width=\"12\" height=\"12\" fill=\"%s\"/>\n", x, y, c->colour[b]);
+        text(to, x + 18, y + 10.5, "", c->legend[b]);
+    }
+}
+
+static void draw_group(FILE *to, const chart *c, int input, double top_value)
+{
+    char label[32];
+    double wide = (double)(RIGHT - LEFT) / INPUTS, middle = LEFT + wide * (input + 0.5);
+    for (int b = 0; b < BARS; b++) {
+        double centre = middle + (b - 1) * BAR_STEP, tall = PLOT * c->value[input][b] / top_value, y = c->top + PLOT - tall;
+        fprintf(to, "<rect x=\"%.1f\" y=\"%.1f\" width=\"%d\" height=\"%.1f\" fill=\"%s\"/>\n",
+                centre - BAR_WIDTH / 2.0, y, BAR_WIDTH, tall, c->colour[b]);
+        snprintf(label, sizeof label, "%.0f", c->value[input][b]);
+        /* a white rim, so that no grid line runs through the number */
+        text(to, centre, y - 4, "text-anchor=\"middle\" stroke=\"#fff\" stroke-width=\"3\" paint-order=\"stroke\"", label);
+    }
+    text(to, middle, c->top + PLOT + 18, "text-anchor=\"middle\" font-weight=\"bold\"", input_names[input]);
+    text(to, middle, c->top + PLOT + 34, "text-anchor=\"middle\"", c->under[input]);
+}
+
+static void draw_chart(FILE *to, const chart *c)
+{
+    double step = step_over(highest(c));
+    text(to, LEFT, c->top - 46, "font-size=\"15\" font-weight=\"bold\"", c->title);
+    draw_legend(to, c);
+    draw_axis(to, c, step);
+    for (int i = 0; i < INPUTS; i++)
+        draw_group(to, c, i, step * STEPS);
+}
+
+static void draw_calls(const figures *f, FILE *to)
+{
+    static const enum which order[BARS] = {ARCHIVE, PLAIN, FLOOR};
+    chart c = {
+        .title = "One check of 60,000 lines (target: archive / plain at most 1.50)",
+        .legend = {"archive", "plain checker", "floor (line ends)"},
+        .colour = {"#1f5fa8", "#e08a1e", "#8a8a8a"},
+        .top = 110,
+    };
+    for (int i = 0; i < INPUTS; i++) {
+        for (int b = 0; b < BARS; b++)
+            c.value[i][b] = per_line(f, i, SIZE_60000, order[b]);
+        snprintf(c.under[i], sizeof c.under[i], "archive / plain: %.3f", ratio(f, i, SIZE_60000, PLAIN));
+    }
+    draw_chart(to, &c);
+}
+
+static void draw_sizes(const figures *f, FILE *to)
+{
+    chart c = {
+        .title = "The archive as the file grows (target: 60,000 / 6,000 at most 1.05)",
+        .legend = {"600 lines", "6,000 lines", "60,000 lines"},
+        .colour = {"#a9c8ec", "#5c94d2", "#1f5fa8"},
+        .top = 440,
+    };
+    for (int i = 0; i < INPUTS; i++) {
+        for (int b = 0; b < BARS; b++)
+            c.value[i][b] = per_line(f, i, (enum size)b, ARCHIVE);
+        snprintf(c.under[i], sizeof c.under[i], "60,000 / 6,000: %.4f", growth(f, i, ARCHIVE));
+    }
+    draw_chart(to, &c);
+}
+
+void picture_print(const figures *f, FILE *to)
+{
+    fprintf(to, "<svg xmlns=\"http://www.w3.org/2000/svg\" width=\"%d\" height=\"%d\" viewBox=\"0 0 %d %d\"", WIDTH, HEIGHT, WIDTH, HEIGHT);
+    fprintf(to, " font-family=\"sans-serif\" font-size=\"12\">\n");
+    fprintf(to, "<rect width=\"%d\" height=\"%d\" fill=\"#fff\"/>\n", WIDTH, HEIGHT);
+    text(to, LEFT, 32, "font-size=\"18\" font-weight=\"bold\"", "Decklesail: instructions per line of the Dirf 2025 check");
+    draw_calls(f, to);
+    draw_sizes(f, to);
+    fprintf(to, "</svg>\n");
+}

@@ -1,0 +1,37 @@
+/* report PICTURE SECONDS < FIGURES
+   Prints the measured figures as text and writes them as a picture. Fails where a figure is missing or a target is missed. */
+#include <stdio.h>
+#include <string.h>
+
+#include "figures.h"
+#include "picture.h"
+#include "table.h"
+
+static int write_picture(const figures *f, const char *path)
+{
+    FILE *to = fopen(path, "w");
+    if (to == NULL)
+        return 0;
+    picture_print(f, to);
+    return fclose(to) == 0;
+}
+
+int main(int argc, char **argv)
+{
+    static figures f;
+    if (argc < 3) {
+        fprintf(stderr, "report PICTURE SECONDS < FIGURES\n");
+        return 2;
+    }
+    if (!figures_read(&f, stdin)) {
+        fprintf(stderr, "report: a figure is missing or not known\n");
+        return 2;
+    }
+    table_print(&f, argv[2]);
+    int met = targets_print(&f);
+    if (!write_picture(&f, argv[1])) {
+        fprintf(stderr, "report: cannot write %s\n", argv[1]);
+        return 2;
+    }
+    return met ? 0 : 1;
+}

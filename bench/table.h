@@ -1,0 +1,13 @@
+/* The report as text. */
+#ifndef TABLE_H
+#define TABLE_H
+
+#include "figures.h"
+
+/* What the seconds are: "emulated seconds" or "seconds". */
+void table_print(const figures *f, const char *seconds);
+
+/* Prints the targets; 1 where all are met. */
+int targets_print(const figures *f);
+
+#endif
