@@ -12,7 +12,7 @@ use borrow.Author.Tests.{ne-eqb, lt-leb, le-ltb, lt-ltb}
 use Rattle.dirf.specs.Bytes.{if_then_else_, Text, endsWith}
 use Rattle.dirf.specs.Lines.{isLineEnd, clean, unclean}
 use Rattle.dirf.specs.Keys.{keyFields, hasKey}
-use Rattle.checker.specs.State.{kindAbove, parentAt}
+use Rattle.checker.specs.State.{above}
 use Rattle.checker.specs.Turn.{bad, endOf, lineAt}
 use Rattle.checker.specs.declared.State.{State}
 
@@ -85,23 +85,14 @@ ended n (b ∷ []) = refl
 ended n (b ∷ c ∷ u) = rw (lt-leb (suc (suc (length u))) 0 (omega arith), lt-leb (suc (suc (length u))) 1 (omega arith))
 
 -- what stands outside place j
-pub above-none : (kinds : List ℕ) (j : ℕ) → j ≡ 0 → 0 ≡ kindAbove kinds j
-unfolding kindAbove
-above-none kinds j e = rw e
+pub above-none : (opened : List ℕ) (j : ℕ) → j ≡ 0 → 0 ≡ above opened j
+unfolding above
+above-none opened j e = rw e
 
-pub above-at : (kinds : List ℕ) (j : ℕ) → (j ≡ 0 → ⊥) → getD kinds (j - 1) 0 ≡ kindAbove kinds j
-unfolding kindAbove
-above-at kinds zero h = absurd (h refl)
-above-at kinds (suc j) h = let e : suc j - 1 ≡ j = omega arith in ap (λ i. getD kinds i 0) e
-
-pub parent-none : (st : State) (d : ℕ) → d ≡ 0 → 0 ≡ parentAt st d
-unfolding parentAt
-parent-none st d e = rw e
-
-pub parent-is : (st : State) (d : ℕ) → (d ≡ 0 → ⊥) → getD (st .lines) (d - 1) 0 ≡ parentAt st d
-unfolding parentAt
-parent-is st zero h = absurd (h refl)
-parent-is st (suc d) h = let e : suc d - 1 ≡ d = omega arith in ap (λ i. getD (st .lines) i 0) e
+pub above-at : (opened : List ℕ) (j : ℕ) → (j ≡ 0 → ⊥) → getD opened (j - 1) 0 ≡ above opened j
+unfolding above
+above-at opened zero h = absurd (h refl)
+above-at opened (suc j) h = let e : suc j - 1 ≡ j = omega arith in ap (λ i. getD opened i 0) e
 
 -- a kind has a key where it has key fields
 pub no-key : (k : ℕ) {n : ℕ} → n ≡ length (keyFields k) → n ≡ 0 → hasKey k ≡ false

@@ -41,7 +41,7 @@ key-at file k q line i = ap₂ (keyParts k) (i .second) (i .third) ∙ key-parts
 
 module _ (file : Text) (st : State) (before : List Rec) (k : ℕ) (h : Sums file st before) (stands : mayStand edition2025 before k ≡ true) where
   -- 21
-  pub seen-same : seenOn st k ≡ (isValue k && isSome (lastUnder before (parentOf edition2025 before k) k))
+  pub seen-same : seenOn (st .seen) k ≡ (isValue k && isSome (lastUnder before (parentOf edition2025 before k) k))
   unfolding seenOn parentOf
   seen-same = go (isValue k) refl
     where

@@ -15,7 +15,7 @@ use Rattle.dirf.specs.Tree.{mayHold, opening}
 use Rattle.dirf.specs.Order.{kindOfLine}
 use Rattle.layout.specs.Tables.{nameTable, namesIn, rowTable, countIn, pfTable, pjTable, holdsIn}
 use Rattle.layout.proofs.Laws.{names-2025, rows-2025, rows-length, holds-2025}
-use Rattle.checker.specs.State.{kindAbove, heldIn, standsOn, belowOn}
+use Rattle.checker.specs.State.{above, heldIn, standsOn, belowOn}
 use Rattle.checker.specs.Turn.{lineAt, endOf}
 use Rattle.checker.specs.declared.State.{State}
 use Rattle.checker.specs.declared.Line.{Line}
@@ -29,14 +29,14 @@ pub count-is : (k : ℕ) {rows : List ℕ} {n : ℕ} → rows ≡ rowTable → n
 count-is k t e = e ∙ ap (λ r. countIn r k) t ∙ sym (rows-length rowTable k) ∙ ap length (rows-2025 k)
 
 -- one more of the open records, from the innermost outwards
-pub held-step : (st : State) (k i : ℕ) {pf pj : List (List ℕ)} {u : ℕ} {t : Bool} → pf ≡ pfTable → pj ≡ pjTable → 0 < i → u ≡ kindAbove (st .kinds) (i - 1)
+pub held-step : (st : State) (k i : ℕ) {pf pj : List (List ℕ)} {u : ℕ} {t : Bool} → pf ≡ pfTable → pj ≡ pjTable → 0 < i → u ≡ above (st .kinds) (i - 1)
     → t ≡ holdsIn pf pj (st .declarant) (getD (st .kinds) (i - 1) 0) u k
     → heldIn (st .declarant) (st .kinds) k i ≡ (if t then i else heldIn (st .declarant) (st .kinds) k (i - 1))
 unfolding heldIn
 held-step st k zero p q l a e = absurd (omega arith)
 held-step st k (suc i) {pf} {pj} {u} {t} p q l a e =
     let j : suc i - 1 ≡ i = omega arith in
-    let holds : t ≡ mayHold edition2025 (st .declarant) (getD (st .kinds) i 0) (kindAbove (st .kinds) i) k = rw (p, q, a, j) at e ∙ holds-2025 _ _ _ _ in
+    let holds : t ≡ mayHold edition2025 (st .declarant) (getD (st .kinds) i 0) (above (st .kinds) i) k = rw (p, q, a, j) at e ∙ holds-2025 _ _ _ _ in
     rw (← holds, j)
 
 -- a line that is whole stands inside what is left

@@ -25,7 +25,7 @@ use Rattle.fields.proofs.PlaceLaws.{places-count, places-cells}
 use Rattle.fields.proofs.Inside.{cell-in}
 use Rattle.layout.proofs.Laws.{kind-small, few-rows}
 use Rattle.rules.specs.Findings.{contentsFound}
-use Rattle.checker.specs.State.{heldAt, parentAt, standsOn, seenOn, keyPlaces, keyOn, commitState}
+use Rattle.checker.specs.State.{above, heldAt, standsOn, seenOn, keyPlaces, keyOn, commitState}
 use Rattle.checker.specs.Turn.{halt, took, orderStep, foundStep, contentStep, countStep, placeStep, kindStep, recordStep}
 use Rattle.checker.specs.Turn.{scanStep, lineStep, lineAt, turnOf}
 use Rattle.checker.specs.declared.State.{State}
@@ -165,7 +165,7 @@ module _ (file : Text) (st : State) (before : List Rec) (h : Sums file st before
         let moved : commitState st k (heldAt st k) len q .at ≡ st .at + (len + 2) = omega (arith, n .at, h .at, long, next-at) in
         record {
           going = refl;
-          entry = ap (λ x. record { kind = k; start = st .at; len = x; parent = parentAt st (heldAt st k) }) long
+          entry = ap (λ x. record { kind = k; start = st .at; len = x; parent = above (st .lines) (heldAt st k) }) long
               ∙ ap₂ (λ x y. record { kind = k; start = x; len = length line; parent = y }) (h .at) (parent-same file st before k h);
           sums = n;
           left = ap (λ x. pieces (drop x file)) moved ∙ ap pieces (sym (drop-drop (len + 2) (st .at) file)) ∙ sym after;
@@ -182,7 +182,7 @@ module _ (file : Text) (st : State) (before : List Rec) (h : Sums file st before
         try r rest 11 0 (not (eqb (placesOf line .count) (length (rowsOf edition2025 k)))) (not (eqb (length (fields line)) (length (rowsOf edition2025 k)))) _ _ (ap (λ n. not (eqb n (length (rowsOf edition2025 k)))) (places-count line)) (λ c.
         let few : length (fields line) ≤ 15 = omega (arith, few-rows k, eqb-true (length (fields line)) (length (rowsOf edition2025 k)) (not-false _ c)) in
         found r rest (contentsFound k (nameOf edition2025 k) (rowsOf edition2025 k) (cellsAt line (placesOf line))) _ _ _ (ap (contentsFound k (nameOf edition2025 k) (rowsOf edition2025 k)) (places-cells line few)) (
-        try r rest 21 1 (seenOn st k) _ _ _ (seen-same file st before k h m) (λ _.
+        try r rest 21 1 (seenOn (st .seen) k) _ _ _ (seen-same file st before k h m) (λ _.
         try r rest 20 2 (keyOn file st k (heldAt st k) q) _ _ _ (key-same file st before k h m q line (keys few)) (λ _.
         try r rest 7 0 (ltb room (st .count + 1)) (ltb room (suc (length before))) (took st k (heldAt st k) len q) keeps (ap (ltb room) (omega (arith, h .count))) (λ _. taken m few)))))))))
 

@@ -20,7 +20,7 @@ use Rattle.dirf.specs.Check.{bytesOf}
 use Rattle.dirf.proofs.History.{History, start}
 use Rattle.dirf.proofs.Siblings.{recAt}
 use Rattle.fields.specs.Places.{partOf}
-use Rattle.checker.specs.State.{startState, kindAbove, heldIn, heldAt, parentAt, orderAt, belowOn, standsOn}
+use Rattle.checker.specs.State.{startState, above, heldIn, heldAt, orderAt, belowOn, standsOn}
 use Rattle.checker.specs.declared.KeyPlaces.{KeyPlaces}
 use Rattle.checker.specs.declared.State.{State}
 
@@ -99,8 +99,8 @@ pub record Located (file : Text) (st : State) (before : List Rec) (q : Place) (d
   pub stack : Stack file st before (q .up)
   pub inside : Inside file st before (q .last) (length (q .up))
 
-kind-above : (file : Text) (st : State) (before : List Rec) (os : List Open) → Stack file st before os → kindAbove (st .kinds) (length os) ≡ kindOfFirst os
-unfolding kindAbove kindOfFirst
+kind-above : (file : Text) (st : State) (before : List Rec) (os : List Open) → Stack file st before os → above (st .kinds) (length os) ≡ kindOfFirst os
+unfolding above kindOfFirst
 kind-above file st before [] h = refl
 kind-above file st before (o ∷ os) h = h .0 .kind
 
@@ -126,15 +126,15 @@ module _ (file : Text) (st : State) (before : List Rec) (k : ℕ) (h : Sums file
       (subst (λ n. Located file st before q (heldIn (declarant before) (st .kinds) k n)) (sym (h .depth))
       (locate file st before (declarant before) none (opened before) k (h .stack) (sym (h .depth))))
 
-  pub parent-same : parentAt st (heldAt st k) ≡ parentOf edition2025 before k
-  unfolding parentOf parentAt numberOfFirst
+  pub parent-same : above (st .lines) (heldAt st k) ≡ parentOf edition2025 before k
+  unfolding parentOf above numberOfFirst
   parent-same = rw (located .deep) (go (place edition2025 before k .up) (located .stack))
     where
-      go : (up : List Open) → Stack file st before up → parentAt st (length up) ≡ numberOfFirst up
+      go : (up : List Open) → Stack file st before up → above (st .lines) (length up) ≡ numberOfFirst up
       go [] s = refl
       go (o ∷ up) s = s .0 .number
 
-  order-same : orderAt st k (heldAt st k) ≡ inOrder (place edition2025 before k .last) k
+  order-same : orderAt (st .kinds) (st .depth) k (heldAt st k) ≡ inOrder (place edition2025 before k .last) k
   unfolding orderAt inOrder
   order-same = rw (located .deep) (go (place edition2025 before k .last) (located .inside))
     where
@@ -151,6 +151,6 @@ module _ (file : Text) (st : State) (before : List Rec) (k : ℕ) (h : Sums file
   stands-same =
       let d = heldAt st k in
       let up = place edition2025 before k .up in
-      let later : Bool = eqb k FIMDirf || ltb 0 d && orderAt st k d in
+      let later : Bool = eqb k FIMDirf || ltb 0 d && orderAt (st .kinds) (st .depth) k d in
       ap (λ n. if ltb n (length opening) then isIn k (getD opening n []) else later) (h .count)
       ∙ ap₂ (λ n o. if ltb (length before) (length opening) then isIn k (getD opening (length before) []) else (eqb k FIMDirf || ltb 0 n && o)) (located .deep) order-same

@@ -36,36 +36,33 @@ startState =
       seen = replicate 74 false;
     }
 
--- the kind of what open record i belongs to
-unfoldable pub kindAbove : List ℕ → ℕ → ℕ
-kindAbove kinds zero = 0
-kindAbove kinds (suc i) = getD kinds i 0
+-- of the open records' lines or kinds, the one of what open record i belongs to
+unfoldable pub above : List ℕ → ℕ → ℕ
+above opened zero = 0
+above opened (suc i) = getD opened i 0
 
 -- of the first i open records, how many stay open for a record of kind k: those down to the innermost that may hold it
 unfoldable pub heldIn : ℕ → List ℕ → ℕ → ℕ → ℕ
 heldIn d kinds k zero = 0
-heldIn d kinds k (suc i) = if mayHold edition2025 d (getD kinds i 0) (kindAbove kinds i) k then suc i else heldIn d kinds k i
+heldIn d kinds k (suc i) = if mayHold edition2025 d (getD kinds i 0) (above kinds i) k then suc i else heldIn d kinds k i
 
 unfoldable pub heldAt : State → ℕ → ℕ
 heldAt st k = heldIn (st .declarant) (st .kinds) k (st .depth)
 
-unfoldable pub parentAt : State → ℕ → ℕ
-parentAt st zero = 0
-parentAt st (suc i) = getD (st .lines) i 0
-
-unfoldable pub orderAt : State → ℕ → ℕ → Bool
-orderAt st k d = if ltb d (st .depth) then leb (getD (st .kinds) d 0) k else true
+-- not before the one that opened last there
+unfoldable pub orderAt : List ℕ → ℕ → ℕ → ℕ → Bool
+orderAt kinds depth k d = if ltb d depth then leb (getD kinds d 0) k else true
 
 -- from line 4 on
 unfoldable pub belowOn : State → ℕ → ℕ → Bool
-belowOn st k d = eqb k FIMDirf || ltb 0 d && orderAt st k d
+belowOn st k d = eqb k FIMDirf || ltb 0 d && orderAt (st .kinds) (st .depth) k d
 
 unfoldable pub standsOn : State → ℕ → ℕ → Bool
 standsOn st k d =
     if ltb (st .count) (length opening) then isIn k (getD opening (st .count) []) else belowOn st k d
 
-unfoldable pub seenOn : State → ℕ → Bool
-seenOn st k = isValue k && getD (st .seen) k false
+unfoldable pub seenOn : List Bool → ℕ → Bool
+seenOn seen k = isValue k && getD seen k false
 
 -- where fields 2 and 3 of the line at `at` stand in the file
 unfoldable pub keyPlaces : Places → ℕ → KeyPlaces

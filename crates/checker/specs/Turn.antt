@@ -16,7 +16,7 @@ use Rattle.fields.specs.Places.{partOf, placesOf, cellsAt}
 use Rattle.fields.specs.declared.Places.{Places}
 use Rattle.layout.specs.Tables.{nameTable, rowTable, pfTable, pjTable}
 use Rattle.rules.specs.Findings.{contentsFound}
-use Rattle.checker.specs.State.{heldAt, parentAt, standsOn, seenOn, keyPlaces, keyOn, commitState, deepest}
+use Rattle.checker.specs.State.{above, heldAt, standsOn, seenOn, keyPlaces, keyOn, commitState, deepest}
 use Rattle.checker.specs.declared.State.{State}
 use Rattle.checker.specs.declared.Line.{Line}
 use Rattle.checker.specs.declared.KeyPlaces.{KeyPlaces}
@@ -66,14 +66,14 @@ took st k d len q =
     record {
       stop = false;
       answer = record { number = 0; line = 0; field = 0; entries = 0 };
-      entry = record { kind = k; start = st .at; len = len; parent = parentAt st d };
+      entry = record { kind = k; start = st .at; len = len; parent = above (st .lines) d };
       next = commitState st k d len q;
     }
 
 -- 21, 20 and 7
 unfoldable pub orderStep : Text → ℕ → State → ℕ → ℕ → ℕ → KeyPlaces → Stepped
 orderStep file room st len k d q =
-    if seenOn st k then halt st 21 1
+    if seenOn (st .seen) k then halt st 21 1
     else if keyOn file st k d q then halt st 20 2
     else if ltb room (st .count + 1) then halt st 7 0
     else took st k d len q

@@ -10,7 +10,7 @@ ghost use Rattle.dirf.specs.Lines.{clean};
 ghost use Rattle.dirf.specs.Check.{verdict};
 ghost use Rattle.fields.specs.Places.{partOf, placesOf};
 ghost use Rattle.checker.specs.Answers.{answerOf, tableAfter, putEntry};
-ghost use Rattle.checker.specs.State.{startState, kindAbove, heldAt, parentAt, orderAt, belowOn, standsOn, seenOn, keyBefore, keyAfter, keyOn, declarantOf, keyPlaces, commitState};
+ghost use Rattle.checker.specs.State.{startState, above as aboveOf, heldAt, orderAt, belowOn, standsOn, seenOn, keyBefore, keyAfter, keyOn, declarantOf, keyPlaces, commitState};
 ghost use Rattle.layout.specs.Tables.{nameTable, rowTable, pfTable, pjTable};
 ghost use Rattle.checker.specs.Turn.{endOf, lineAt, Lent, Fits, haltAt, halt, orderStep, contentStep, countStep, placeStep, kindStep, recordStep, lineStep, turnOf};
 
@@ -166,15 +166,16 @@ fn ends_in_bar(s: &[u8]) -> bool
 
 // ---- the rules that look back
 
-fn kind_above(st: State, j: usize) -> u32
+// Of the open records' lines or kinds, the one of what open record j belongs to.
+fn above(opened: [u32; 4], j: usize) -> u32
     requires { ⌜ j ≤ 4 ⌝ }
-    ensures { λ r. ⌜ r ≡ kindAbove (st .kinds) j ⌝ }
+    ensures { λ r. ⌜ r ≡ aboveOf opened j ⌝ }
 {
     if j == 0 {
         return 0;
     }
     let i = j - 1;
-    st.kinds[i]
+    opened[i]
 }
 
 // How many open records stay open for a record of kind k: those down to the innermost that may hold it.
@@ -182,11 +183,12 @@ fn held_at(pf: &[[u8; 74]; 74], pj: &[[u8; 74]; 74], st: State, k: u32) -> usize
     requires { ⌜ (now pf ≡ pfTable) × ((now pj ≡ pjTable) × (st .depth ≤ 4)) ⌝ }
     ensures { λ r. ⌜ (r ≡ heldAt st k) × (r ≤ 4) ⌝ }
 {
+    let kinds = st.kinds;
     let mut i = st.depth;
     while 0 < i {
         let j = i - 1;
-        let h = st.kinds[j];
-        if layout::may_hold(pf, pj, st.declarant, h, kind_above(st, j), k) {
+        let h = kinds[j];
+        if layout::may_hold(pf, pj, st.declarant, h, above(kinds, j), k) {
             return i;
         }
         i = j;
@@ -194,24 +196,13 @@ fn held_at(pf: &[[u8; 74]; 74], pj: &[[u8; 74]; 74], st: State, k: u32) -> usize
     0
 }
 
-fn parent_at(st: State, d: usize) -> u32
-    requires { ⌜ d ≤ 4 ⌝ }
-    ensures { λ r. ⌜ r ≡ parentAt st d ⌝ }
-{
-    if d == 0 {
-        return 0;
-    }
-    let i = d - 1;
-    st.lines[i]
-}
-
 // Not before the record that opened last there.
-fn order_at(st: State, k: u32, d: usize) -> bool
-    requires { ⌜ st .depth ≤ 4 ⌝ }
-    ensures { λ r. ⌜ r ≡ orderAt st k d ⌝ }
+fn order_at(kinds: [u32; 4], depth: usize, k: u32, d: usize) -> bool
+    requires { ⌜ depth ≤ 4 ⌝ }
+    ensures { λ r. ⌜ r ≡ orderAt kinds depth k d ⌝ }
 {
-    if d < st.depth {
-        return st.kinds[d] <= k;
+    if d < depth {
+        return kinds[d] <= k;
     }
     true
 }
@@ -225,7 +216,8 @@ fn stands_below(st: State, k: u32, d: usize) -> bool
         return true;
     }
     if 0 < d {
-        return order_at(st, k, d);
+        let kinds = st.kinds;
+        return order_at(kinds, st.depth, k, d);
     }
     false
 }
@@ -248,13 +240,13 @@ fn stands(st: State, k: u32, d: usize) -> bool
 }
 
 // A value record that stands below this beneficiary already.
-fn seen(st: State, k: u32) -> bool
+fn seen(kinds: [bool; 74], k: u32) -> bool
     requires { ⌜ k < 74 ⌝ }
-    ensures { λ r. ⌜ r ≡ seenOn st k ⌝ }
+    ensures { λ r. ⌜ r ≡ seenOn kinds k ⌝ }
 {
     if layout::is_value(k) {
         let i = k as usize;
-        return st.seen[i];
+        return kinds[i];
     }
     false
 }
@@ -403,7 +395,8 @@ fn ordered(
     requires { ⌜ (k < 74) × ((d ≤ 4) × Fits (now file) st len) ⌝ }
     ensures { λ r. ⌜ r ≡ orderStep (now (file .entry)) room st len k d q ⌝ }
 {
-    if seen(st, k) {
+    let kinds = st.seen;
+    if seen(kinds, k) {
         return refuse(st, 21, 1);
     }
     if key_bad(file, st, k, d, q) {
@@ -414,7 +407,8 @@ fn ordered(
         return refuse(st, 7, 0);
     }
     let at = st.at;
-    let parent = parent_at(st, d);
+    let lines = st.lines;
+    let parent = above(lines, d);
     let next = commit(st, k, d, len, q);
     Stepped {
         stop: false,

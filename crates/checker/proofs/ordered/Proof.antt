@@ -1,4 +1,4 @@
-use borrow.Author.Tests.{le-leb, le-ltb, lt-leb, lt-ltb}
+use borrow.Author.Tests.{le-ltb, lt-ltb}
 use Rattle.checker.specs.Turn.{orderStep}
 use borrow.Author.Needs.{needs}
 use Rattle.checker.proofs.ordered.Statement.{statement}
@@ -51,15 +51,14 @@ returns-3 c =
     simp (
       c .refuse3 .ensures,
       lt-ltb _ _ (c .before .if3 .taken),
-      lt-leb _ _ (c .before .if3 .taken),
       c .before .before .before .if2 .left,
       ← c .before .before .before .before .key-bad .ensures,
       c .before .before .before .before .before .if1 .left,
       ← c .before .before .before .before .before .before .seen .ensures,
     )
 
-parent-at-requires : tie.Need-parent-at-requires
-parent-at-requires c κs = search needs
+above-requires : tie.Need-above-requires
+above-requires c κs = search needs
 
 commit-requires : tie.Need-commit-requires
 commit-requires c κs = search needs
@@ -67,15 +66,15 @@ commit-requires c κs = search needs
 returns-4 : tie.Need-returns-4
 unfolding orderStep
 returns-4 c =
+    let s = c .before .before .before in
     simp (
       c .commit .ensures,
-      ← c .before .parent-at .ensures,
-      le-leb _ _ (c .before .before .if3 .left),
-      le-ltb _ _ (c .before .before .if3 .left),
-      c .before .before .before .before .if2 .left,
-      ← c .before .before .before .before .before .key-bad .ensures,
-      c .before .before .before .before .before .before .if1 .left,
-      ← c .before .before .before .before .before .before .before .seen .ensures,
+      ← c .before .above .ensures,
+      le-ltb _ _ (s .if3 .left),
+      s .before .before .if2 .left,
+      ← s .before .before .before .key-bad .ensures,
+      s .before .before .before .before .if1 .left,
+      ← s .before .before .before .before .before .seen .ensures,
     )
 
 pub ordered-spec : {M : Type 1} → statement M
@@ -92,6 +91,6 @@ ordered-spec =
     cast-if3
     refuse-requires-3
     returns-3
-    parent-at-requires
+    above-requires
     commit-requires
     returns-4)
