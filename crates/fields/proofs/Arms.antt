@@ -1,37 +1,39 @@
--- The arms of a `match` on a number: a computed test over an arm's keys, and one over the keys of all arms for what is left.
--- It is for arms without neighbours: where an arm has n and n + 1, a range is tested, and there is no list of keys.
+-- The arms of a `match` on a number: what an arm of single numbers is told, and what any other is told of them.
 use Prim.Native.Nat.{ℕ}
-use mathlib.Core.Path.{_≡_}
-use mathlib.Core.Bool.{Bool, true, false}
-use mathlib.Core.Logic.{inl, inr, ⊎-elim}
-use mathlib.Core.List.{List, [], _∷_, List·Memᴰ·head, List·Memᴰ·cases-cons, List·Memᴰ·not-nil}
+use mathlib.Core.Path.{_≡_, refl, sym, _∙_}
+use mathlib.Core.Bool.{Bool, true, false, false≢true}
+use mathlib.Core.Logic.{inl, inr}
+use mathlib.Core.List.{List, [], _∷_, map, tail-eq-of-cons-eq}
 use types.Run.{OneOf}
+use borrow.Author.Tests.{ne-eqb}
 use Rattle.dirf.specs.Bytes.{every, some, isIn}
-use Rattle.dirf.specs.Theorems.Plain.{_∈_}
-use Rattle.dirf.proofs.Says.{denies, isIn-says, some-says, on}
-use Rattle.dirf.proofs.Lists.{Each, of-each, every-in}
+use Rattle.dirf.proofs.Bools.{unless-true}
+use Rattle.dirf.proofs.Says.{isIn-says}
+use Rattle.dirf.proofs.Lists.{every-in}
 
-key-in : (ks : List ℕ) {k : ℕ} → OneOf ks k → k ∈ ks
-key-in [] h = absurd h
-key-in (j ∷ []) h = List·Memᴰ·head h
-key-in (j ∷ i ∷ ks) (inl e) = List·Memᴰ·head e
-key-in (j ∷ i ∷ ks) (inr h) = on (key-in (i ∷ ks) h)
+-- an arm of single numbers is told that the number is one of them
+pub keys : {A : Type 0} (f : ℕ → A) (v : A) (k : ℕ) (ks : List ℕ) → map f (k ∷ ks) ≡ map (λ x. v) (k ∷ ks)
+    → {x : ℕ} → OneOf (k ∷ ks) x → v ≡ f x
+keys f v k [] all e = cc
+keys f v k (k′ ∷ ks) all (inl e) = cc
+keys f v k (k′ ∷ ks) all (inr o) = keys f v k′ ks (tail-eq-of-cons-eq all) o
 
-in-key : (ks : List ℕ) {k : ℕ} → k ∈ ks → OneOf ks k
-in-key [] m = List·Memᴰ·not-nil m
-in-key (j ∷ []) m = ⊎-elim (λ e. e) (λ m. absurd (List·Memᴰ·not-nil m)) (List·Memᴰ·cases-cons m)
-in-key (j ∷ i ∷ ks) m = ⊎-elim inl (λ m. inr (in-key (i ∷ ks) m)) (List·Memᴰ·cases-cons m)
+-- any other arm is told that it is none of them, in this shape: the last arm of single numbers first
+abbrev pub NoneOf : List (List ℕ) → ℕ → Type 0
+NoneOf [] x = Unit {0}
+NoneOf (ks ∷ kss) x = NoneOf kss x × (OneOf ks x → ⊥)
 
--- what holds of an arm's keys holds of the number that came to it
-pub in-arm : (test : ℕ → Bool) (ks : List ℕ) → every test ks ≡ true → {k : ℕ} → OneOf ks k → test k ≡ true
-in-arm test ks all h = every-in test (key-in ks h) all
+pub not-in : (ks : List ℕ) (x : ℕ) → (OneOf ks x → ⊥) → isIn x ks ≡ false
+unfolding isIn some
+not-in [] x n = refl
+not-in (k ∷ []) x n = rw (ne-eqb x k n)
+not-in (k ∷ k′ ∷ ks) x n = rw (ne-eqb x k (λ e. n (inl e))) (not-in (k′ ∷ ks) x (λ o. n (inr o)))
 
--- a number that came to no arm is in no list whose numbers all have an arm
-pub in-no-arm : (arms : List (List ℕ)) (k : ℕ) → Each (λ ks. OneOf ks k → ⊥) arms → (js : List ℕ)
-    → every (λ j. some (isIn j) arms) js ≡ true → isIn k js ≡ false
-in-no-arm arms k apart js all = denies (isIn k js) (isIn-says k js) .1 out
-  where
-    out : k ∈ js → ⊥
-    out m =
-        let h = some-says (isIn k) (λ ks. isIn-says k ks) arms .0 (every-in (λ j. some (isIn j) arms) m all) in
-        of-each apart (h .0) (h .1) (in-key (h .0) (h .2))
+pub none-in : (kss : List (List ℕ)) (x : ℕ) → NoneOf kss x → some (isIn x) kss ≡ false
+unfolding some
+none-in [] x n = refl
+none-in (ks ∷ kss) x n = rw (not-in ks x (n .1)) (none-in kss x (n .0))
+
+-- a number that fails a test which every number of a list passes
+pub outside : (test : ℕ → Bool) (ks : List ℕ) → every test ks ≡ true → (x : ℕ) → test x ≡ false → isIn x ks ≡ false
+outside test ks all x e = unless-true (isIn x ks) (λ i. false≢true (sym e ∙ every-in test (isIn-says x ks .0 i) all))

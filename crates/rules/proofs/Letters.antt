@@ -13,9 +13,9 @@ use Rattle.dirf.proofs.Bools.{and-left, and-right}
 use Rattle.dirf.proofs.Says.{isIn-says}
 use Rattle.dirf.proofs.Lists.{none, _also_, of-each}
 use Rattle.layout.specs.Tables.{tab, holdsOf}
-use Rattle.layout.proofs.Arms.{NoneOf}
+use Rattle.fields.proofs.Arms.{NoneOf, none-in}
 use Rattle.rules.specs.Findings.{onlyByte, letterOf}
-use Rattle.rules.proofs.Arms.{none-in, within, between, seen}
+use Rattle.layout.proofs.Arms.{within, between, seen}
 
 -- an arm of a `match` on the only byte, below the arm of the letter k
 pub letter : (k : ℕ) (v : Bool) (kss : List (List ℕ)) (lo hi : ℕ) → tab (seen (λ b. letterOf k (b ∷ [])) v kss) lo (hi - lo) ≡ replicate (hi - lo) v

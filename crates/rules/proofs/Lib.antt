@@ -1,5 +1,4 @@
 pub mod Every
-pub mod Arms
 pub mod Values
 pub mod Letters
 pub mod FieldOrder

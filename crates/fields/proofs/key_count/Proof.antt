@@ -1,43 +1,27 @@
 -- Each arm by a computed test over its keys; the rest, because every number that the definition names has an arm.
 use Prim.Native.Nat.{ℕ}
 use mathlib.Core.Path.{_≡_, refl}
-use mathlib.Core.Bool.{true}
+use mathlib.Core.Bool.{true, false}
 use mathlib.Core.List.{List, [], _∷_}
-use lib.Dec.{eqb}
 use lib.ListN.{length}
-use types.Run.{OneOf}
-use borrow.Author.Tests.{eqb-true}
-use Rattle.dirf.specs.Bytes.{every, bytes-opens}
+use Rattle.dirf.specs.Bytes.{every, some, isIn, bytes-opens}
 use Rattle.dirf.specs.Kinds.{IDREC, FCI, PROC, RRA, SCP, beneficiaries, kinds-opens}
 use Rattle.dirf.specs.Keys.{keyFields}
-use Rattle.dirf.proofs.Lists.{Each, none, _also_}
-use Rattle.fields.proofs.Arms.{in-arm, in-no-arm}
+use Rattle.fields.proofs.Arms.{keys, NoneOf, none-in, outside}
 use Rattle.fields.proofs.key_count.Statement.{statement}
 use Rattle.fields.proofs.key_count.Tie as tie
 
-abbrev twos : List ℕ
-twos = 51 ∷ 55 ∷ []
+abbrev count : ℕ → ℕ
+count k = length (keyFields k)
 
-abbrev heads : List ℕ
-heads = 5 ∷ 48 ∷ 59 ∷ []
-
-abbrev persons : List ℕ
-persons = 6 ∷ 49 ∷ 52 ∷ 56 ∷ 60 ∷ []
-
-abbrev companies : List ℕ
-companies = 44 ∷ 50 ∷ 54 ∷ 62 ∷ []
-
+-- the last arm first
 abbrev arms : List (List ℕ)
-arms = twos ∷ heads ∷ persons ∷ companies ∷ []
+arms = (44 ∷ 50 ∷ 54 ∷ 62 ∷ []) ∷ (6 ∷ 49 ∷ 52 ∷ 56 ∷ 60 ∷ []) ∷ (5 ∷ 48 ∷ 59 ∷ []) ∷ (51 ∷ 55 ∷ []) ∷ []
 
-counted : (n : ℕ) (ks : List ℕ) → every (λ k. eqb n (length (keyFields k))) ks ≡ true → (k : ℕ) → OneOf ks k
-    → n ≡ length (keyFields k)
-counted n ks all k h = eqb-true n (length (keyFields k)) (in-arm (λ k. eqb n (length (keyFields k))) ks all h)
-
-uncounted : (k : ℕ) → Each (λ ks. OneOf ks k → ⊥) arms → 0 ≡ length (keyFields k)
+uncounted : (k : ℕ) → NoneOf arms k → 0 ≡ count k
 unfolding keyFields bytes-opens kinds-opens
-uncounted k apart =
-    let no = in-no-arm arms k apart in
+uncounted k n =
+    let no : (js : List ℕ) → every (λ j. some (isIn j) arms) js ≡ true → isIn k js ≡ false = λ js all. outside (λ j. some (isIn j) arms) js all k (none-in arms k n) in
     rw (no (PROC ∷ RRA ∷ []) refl, no (IDREC ∷ FCI ∷ SCP ∷ []) refl, no beneficiaries refl)
 
 pub key-count-spec : {M : Type 1} → statement M
@@ -45,8 +29,8 @@ unfolding keyFields bytes-opens kinds-opens
 key-count-spec =
     tie.close
     (tie.spec
-    (λ c. counted 2 twos refl (c .before .args .k) (c .match .keys1))
-    (λ c. counted 1 heads refl (c .before .args .k) (c .match .keys2))
-    (λ c. counted 1 persons refl (c .before .args .k) (c .match .keys3))
-    (λ c. counted 1 companies refl (c .before .args .k) (c .match .keys4))
-    (λ c. let r = c .match .rest in uncounted (c .before .args .k) (r .0 .0 .0 .1 also r .0 .0 .1 also r .0 .1 also r .1 also none)))
+    (λ c. keys count 2 51 (55 ∷ []) refl (c .match .keys1))
+    (λ c. keys count 1 5 (48 ∷ 59 ∷ []) refl (c .match .keys2))
+    (λ c. keys count 1 6 (49 ∷ 52 ∷ 56 ∷ 60 ∷ []) refl (c .match .keys3))
+    (λ c. keys count 1 44 (50 ∷ 54 ∷ 62 ∷ []) refl (c .match .keys4))
+    (λ c. uncounted (c .before .args .k) (c .match .rest)))

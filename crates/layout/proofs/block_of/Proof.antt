@@ -1,12 +1,13 @@
 -- Blocks, arm by arm: the answer, from which number on, and below which.
 use Prim.Native.Nat.{ℕ, _≤_}
-use mathlib.Core.Path.{_≡_, refl}
+use mathlib.Core.Path.{_≡_, refl, sym}
 use mathlib.Core.List.{List, [], _∷_}
 use borrow.Author.Needs.{needs}
 use Rattle.dirf.specs.Bytes.{every, bytes-opens}
 use Rattle.dirf.specs.Tree.{blockOf}
+use Rattle.fields.proofs.Arms.{keys}
 use Rattle.layout.proofs.Past.{lookup-past}
-use Rattle.layout.proofs.Arms.{keys, arm, seen}
+use Rattle.layout.proofs.Arms.{between, from, seen}
 use Rattle.layout.proofs.block_of.Statement.{statement}
 use Rattle.layout.proofs.block_of.Tie as tie
 
@@ -14,9 +15,9 @@ use Rattle.layout.proofs.block_of.Tie as tie
 abbrev singles : List (List ℕ)
 singles = (56 ∷ []) ∷ (52 ∷ 54 ∷ []) ∷ (6 ∷ 44 ∷ []) ∷ []
 
-none : (d k : ℕ) → 74 ≤ k → blockOf d k ≡ 0
+none : (d k : ℕ) → 74 ≤ k → 0 ≡ blockOf d k
 unfolding every blockOf
-none d k h = lookup-past k h 0 _ refl
+none d k h = sym (lookup-past k h 0 _ refl)
 
 pub block-of-spec : {M : Type 1} → statement M
 unfolding bytes-opens blockOf seen
@@ -26,6 +27,6 @@ block-of-spec =
     (λ c. let d = c .before .args .d in keys (blockOf d) d 6 (44 ∷ []) refl (c .match .keys1))
     (λ c. keys (blockOf (c .before .args .d)) 51 52 (54 ∷ []) refl (c .match .keys2))
     (λ c. keys (blockOf (c .before .args .d)) 55 56 [] refl (c .match .keys3))
-    (λ c. let d = c .before .before .before .args .d in search (needs, arm (blockOf d) singles (none d) 48 49 51 refl))
-    (λ c. let d = c .before .before .args .d in search (needs, arm (blockOf d) singles (none d) 0 0 49 refl))
-    (λ c. let d = c .before .before .before .args .d in search (needs, arm (blockOf d) singles (none d) 0 51 75 refl)))
+    (λ c. let d = c .before .before .before .args .d in search (needs, between (blockOf d) 48 singles 49 51 refl))
+    (λ c. let d = c .before .before .args .d in search (needs, between (blockOf d) 0 singles 0 49 refl))
+    (λ c. let d = c .before .before .before .args .d in search (needs, from (blockOf d) 0 singles 51 74 refl (none d))))

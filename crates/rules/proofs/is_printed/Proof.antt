@@ -3,9 +3,9 @@ use mathlib.Core.Bool.{true, false}
 use mathlib.Core.List.{[], _∷_}
 use borrow.Author.Needs.{needs}
 use Rattle.dirf.specs.Bytes.{bytes-opens}
-use Rattle.layout.proofs.Arms.{keys}
+use Rattle.fields.proofs.Arms.{keys}
 use Rattle.rules.specs.Findings.{onlyByte, letterOf}
-use Rattle.rules.proofs.Arms.{between, seen}
+use Rattle.layout.proofs.Arms.{between, seen}
 use Rattle.rules.proofs.Letters.{letter}
 use Rattle.rules.proofs.is_printed.Statement.{statement}
 use Rattle.rules.proofs.is_printed.Tie as tie

@@ -5,8 +5,8 @@ use borrow.Author.Needs.{needs}
 use Rattle.dirf.specs.Bytes.{bytes-opens}
 use Rattle.dirf.specs.Fields.{takesNoZero}
 use Rattle.layout.specs.Tables.{holdsOf}
-use Rattle.layout.proofs.Arms.{keys}
-use Rattle.rules.proofs.Arms.{between, seen}
+use Rattle.fields.proofs.Arms.{keys}
+use Rattle.layout.proofs.Arms.{between, seen}
 use Rattle.rules.proofs.takes_no_zero.Statement.{statement}
 use Rattle.rules.proofs.takes_no_zero.Tie as tie
 
