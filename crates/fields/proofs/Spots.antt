@@ -1,4 +1,4 @@
--- The place of field k: sought from field to field, and what stands there.
+-- The place of field k, sought from field to field.
 use Prim.Native.Nat.{ℕ, zero, suc, _+_, _-_, _≤_, _<_}
 use mathlib.Core.Path.{_≡_, refl}
 use mathlib.Core.Bool.{Bool, true, false, _&&_, and-false}
@@ -6,14 +6,14 @@ use mathlib.Core.List.{List, [], _∷_}
 use native.Mathlib.Omega.{arith}
 use native.Mathlib.Nat.{add-zero, zero-add, add-assoc}
 use native.Mathlib.Numerals.{sub-one}
-use lib.Dec.{leb, ltb, leb·suc-zero, leb·suc-suc}
-use lib.ListN.{length, take, drop, length-drop, List·getD-eq-default}
+use lib.Dec.{leb, leb·suc-zero, leb·suc-suc}
+use lib.ListN.{length, take, drop, length-drop}
 use lib.Seq.{length-take-le}
-use borrow.Author.Tests.{le-leb, leb-false, ltb-true, ltb-false}
+use borrow.Author.Tests.{le-leb}
 use Rattle.dirf.specs.Bytes.{if_then_else_, Text}
 use Rattle.dirf.specs.Lines.{fields, field}
-use Rattle.dirf.specs.FieldReader.{fieldThere, fieldOf, widthOf, fieldLength, reader-opens}
-use Rattle.dirf.specs.Theorems.ThereAndBack.{FieldPlaced}
+use Rattle.dirf.specs.FieldReader.{fieldOf, widthOf, reader-opens}
+use Rattle.dirf.proofs.FieldPlaces.{field-placed}
 use Rattle.fields.specs.declared.Place.{Place}
 use Rattle.fields.specs.Places.{partOf, placeOf, barIn}
 use Rattle.fields.proofs.Bars.{cut, uncut}
@@ -53,20 +53,7 @@ pub place-is : (line : Text) (k : ℕ) → placeOf line k ≡ sought line 0 k
 unfolding placeOf reader-opens
 place-is line k = rw (seek-is (fields line) 0 (length line) k, zero-add)
 
--- what stands at a place, inside the line
-pub record Sits (line : Text) (p : Place) (t : Text) : Type 0 where
-  pub bytes : partOf line (p .start) (p .len) ≡ t
-  pub inside : p .start + p .len ≤ length line
-
 module _ (line : Text) where
-  -- field k of what begins at byte s stands where it is sought
-  abbrev Sat : ℕ → ℕ → Type 0
-  Sat s k = Sits line (sought line s k) (field k (fields (drop s line)))
-
-  sits-none : Sits line (spot false (length line) 0) []
-  unfolding partOf
-  sits-none = record { bytes = refl; inside = omega arith }
-
   -- one turn: e is the first bar from byte s on, or the line's end
   module _ (s e : ℕ) (h : s ≤ length line) (q : e ≡ s + barIn (drop s line)) where
     pub sought-none : (k : ℕ) → length line ≤ e → sought line s k ≡ spot false (length line) 0
@@ -86,36 +73,11 @@ module _ (line : Text) where
         let n : s + (e - s + 1) ≡ e + 1 = omega arith in
         rw (cut line s e h q g, seek, part-long g, n, sub-one)
 
-    sits-cut : (k : ℕ) → e < length line → Sat (e + 1) k → Sat s (suc k)
-    unfolding field
-    sits-cut zero g next = rw (sought-first g, cut line s e h q g) record { bytes = refl; inside = omega arith }
-    sits-cut (suc k) g next = rw (sought-next (suc (suc k)) (omega arith) g, cut line s e h q g, sub-one) next
-
-    sits-suc : (k : ℕ) (t : Bool) → ltb e (length line) ≡ t → (e < length line → Sat (e + 1) k) → Sat s (suc k)
-    unfolding field
-    sits-suc k true g next = let g = ltb-true e (length line) g in sits-cut k g (next g)
-    sits-suc k false g next = rw (uncut line s e h q (ltb-false e (length line) g)) sits-none
-
-  sits : (k s : ℕ) → s ≤ length line → Sat s k
-  unfolding field
-  sits zero s h = sits-none
-  sits (suc k) s h =
-      let e = s + barIn (drop s line) in
-      sits-suc s e h refl k (ltb e (length line)) refl (λ g. sits k (e + 1) (omega arith))
+-- what stands at a place, inside the line
+pub record Sits (line : Text) (p : Place) (t : Text) : Type 0 where
+  pub bytes : partOf line (p .start) (p .len) ≡ t
+  pub inside : p .start + p .len ≤ length line
 
 pub placed : (k : ℕ) (line : Text) {p : Place} → p ≡ placeOf line k → Sits line p (fieldOf k line)
-unfolding fieldOf
-placed k line e = rw (e, place-is line k) (sits line k 0 (omega arith))
-
-nowhere : (k : ℕ) (line : Text) → fieldThere k line ≡ false → fieldLength k line ≡ 0
-unfolding reader-opens field
-nowhere zero line e = refl
-nowhere (suc k) line e =
-    let h : length (fields line) ≤ k = omega (arith, leb-false (suc k) (length (fields line)) (rw leb-one at e)) in
-    rw (List·getD-eq-default (fields line) [] h)
-
-pub field-placed : (k : ℕ) (line : Text) → FieldPlaced k line
-unfolding placeOf partOf reader-opens
-field-placed k line =
-    let p = placed k line refl in
-    record { bytes = p .bytes; inside = p .inside; nowhere = λ e. (rw e, nowhere k line e) }
+unfolding placeOf partOf
+placed k line e = let f = field-placed k line in rw e record { bytes = f .bytes; inside = f .inside }
