@@ -1,43 +1,34 @@
 -- The rules that look back ask the same of the state as of the records: 21 and 20.
 use Prim.Native.Nat.{ℕ}
 use mathlib.Core.Path.{_≡_, refl, sym, ap, ap₂, _∙_}
-use mathlib.Core.Bool.{Bool, true, false, _&&_, _||_, not}
-use mathlib.Core.List.{List, [], _∷_, map}
+use mathlib.Core.Bool.{Bool, true, false, _&&_, not}
+use mathlib.Core.List.{List}
 use mathlib.Core.Option.{Option, none, some}
 use native.Mathlib.Omega.{arith}
 use lib.Dec.{eqb}
 use lib.ListN.{length, getD}
 use borrow.Author.Tests.{lt-ltb, le-ltb}
-use Rattle.dirf.specs.Bytes.{if_then_else_, Text, isIn}
-use Rattle.dirf.specs.Kinds.{IDREC, FCI, PROC, RRA, SCP, isValue, isBeneficiary}
+use Rattle.dirf.specs.Bytes.{if_then_else_, Text}
+use Rattle.dirf.specs.Kinds.{isValue}
 use Rattle.dirf.specs.Edition.{edition2025}
-use Rattle.dirf.specs.Lines.{fields, field}
+use Rattle.dirf.specs.Lines.{fields}
 use Rattle.dirf.specs.Tree.{Rec, Open, numberOfFirst, place, parentOf, mayStand}
-use Rattle.dirf.specs.Keys.{keyFields, hasKey, keyOf, keyLess, lastUnder, isSome, notAfter}
+use Rattle.dirf.specs.Keys.{hasKey, keyOf, keyLess, lastUnder, isSome, notAfter}
 use Rattle.dirf.proofs.Levels.{key-below, key-opens}
 use Rattle.dirf.proofs.ValuePlace.{value-place}
 use Rattle.dirf.proofs.Siblings.{recAt, own, one-before}
 use Rattle.dirf.proofs.Edition2025.{sound2025}
 use Rattle.fields.specs.Places.{partOf, keyParts}
+use Rattle.fields.proofs.PlaceLaws.{key-of-cells}
 use Rattle.checker.specs.State.{heldAt, seenOn, keyBefore, keyAfter, keyOn}
 use Rattle.checker.specs.declared.KeyPlaces.{KeyPlaces}
 use Rattle.checker.specs.declared.State.{State}
 use Rattle.checker.proofs.Sums.{KeyIs, keyAt, Sums, Inside, located}
 
--- a key is made of fields 2 and 3 alone
-pub key-parts : (k : ℕ) (cells : List Text) → keyParts k (field 2 cells) (field 3 cells) ≡ keyOf k cells
-unfolding keyParts keyOf keyFields field
-key-parts k cells = go (isIn k (PROC ∷ RRA ∷ [])) (isIn k (IDREC ∷ FCI ∷ SCP ∷ []) || isBeneficiary k)
-  where
-    go : (s t : Bool) → map (λ f. field f ([] ∷ field 2 cells ∷ field 3 cells ∷ [])) (if s then 2 ∷ 3 ∷ [] else if t then 2 ∷ [] else [])
-        ≡ map (λ f. field f cells) (if s then 2 ∷ 3 ∷ [] else if t then 2 ∷ [] else [])
-    go true t = refl
-    go false true = refl
-    go false false = refl
-
+-- the key at the places of a line is that of the line
 key-at : (file : Text) (k : ℕ) (q : KeyPlaces) (line : Text) → KeyIs file q line
     → keyParts k (partOf file (q .start2) (q .len2)) (partOf file (q .start3) (q .len3)) ≡ keyOf k (fields line)
-key-at file k q line i = ap₂ (keyParts k) (i .second) (i .third) ∙ key-parts k (fields line)
+key-at file k q line i = ap₂ (keyParts k) (i .second) (i .third) ∙ sym (key-of-cells k (fields line))
 
 module _ (file : Text) (st : State) (before : List Rec) (k : ℕ) (h : Sums file st before) (stands : mayStand edition2025 before k ≡ true) where
   -- 21

@@ -11,21 +11,6 @@ Inv-loop file table₀ room names rows pf pj st₀ table st = Held file table₀
 abbrev μ-loop : tie.MeasureT-loop
 μ-loop file table₀ room names rows pf pj st₀ table st = 65537 - st .count
 
-name-table-requires : tie.Need-name-table-requires Inv-loop μ-loop
-name-table-requires c κs = search needs
-
-row-table-requires : tie.Need-row-table-requires Inv-loop μ-loop
-row-table-requires c κs = search needs
-
-pf-table-requires : tie.Need-pf-table-requires Inv-loop μ-loop
-pf-table-requires c κs = search needs
-
-pj-table-requires : tie.Need-pj-table-requires Inv-loop μ-loop
-pj-table-requires c κs = search needs
-
-start-requires : tie.Need-start-requires Inv-loop μ-loop
-start-requires c κs = search needs
-
 loop-holds : tie.Need-loop-holds Inv-loop μ-loop
 loop-holds c = held-start _ _ _ (c .start .ensures)
 
@@ -40,9 +25,6 @@ turn-requires c κs =
       },
       (l .inv .between .reading .few, shallow (l .inv .between .reading)),
     )
-
-same-length : tie.Need-same-length Inv-loop μ-loop
-same-length c = search needs
 
 returns : tie.Need-returns Inv-loop μ-loop
 returns c =
@@ -75,14 +57,14 @@ check-spec =
     (tie.spec
     Inv-loop
     μ-loop
-    name-table-requires
-    row-table-requires
-    pf-table-requires
-    pj-table-requires
-    start-requires
+    (λ c κs. search needs)
+    (λ c κs. search needs)
+    (λ c κs. search needs)
+    (λ c κs. search needs)
+    (λ c κs. search needs)
     loop-holds
     turn-requires
-    same-length
+    (λ c. search needs)
     returns
     put-entry-requires
     loop-less

@@ -11,21 +11,6 @@ Inv-loop file room names rows pf pj st₀ st = Between file room st
 abbrev μ-loop : tie.MeasureT-loop
 μ-loop file room names rows pf pj st₀ st = 65537 - st .count
 
-name-table-requires : tie.Need-name-table-requires Inv-loop μ-loop
-name-table-requires c κs = search needs
-
-row-table-requires : tie.Need-row-table-requires Inv-loop μ-loop
-row-table-requires c κs = search needs
-
-pf-table-requires : tie.Need-pf-table-requires Inv-loop μ-loop
-pf-table-requires c κs = search needs
-
-pj-table-requires : tie.Need-pj-table-requires Inv-loop μ-loop
-pj-table-requires c κs = search needs
-
-start-requires : tie.Need-start-requires Inv-loop μ-loop
-start-requires c κs = search needs
-
 loop-holds : tie.Need-loop-holds Inv-loop μ-loop
 loop-holds c = between-start _ _ (c .start .ensures)
 
@@ -62,11 +47,11 @@ check-room-spec =
     (tie.spec
     Inv-loop
     μ-loop
-    name-table-requires
-    row-table-requires
-    pf-table-requires
-    pj-table-requires
-    start-requires
+    (λ c κs. search needs)
+    (λ c κs. search needs)
+    (λ c κs. search needs)
+    (λ c κs. search needs)
+    (λ c κs. search needs)
     loop-holds
     turn-requires
     returns

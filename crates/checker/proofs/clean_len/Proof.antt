@@ -14,23 +14,11 @@ Inv-loop s i₀ i = (i ≤ length s) × (length (clean s) ≡ i + length (clean 
 abbrev μ-loop : tie.MeasureT-loop
 μ-loop s i₀ i = length s - i
 
-loop-holds : tie.Need-loop-holds Inv-loop μ-loop
-loop-holds c = search needs
-
-shared-slice-read-b : tie.Need-shared-slice-read-b Inv-loop μ-loop
-shared-slice-read-b c = search needs
-
 returns : tie.Need-returns Inv-loop μ-loop
 returns c = omega (arith, clean-stop (c .before .before .before .before .args .s .now) (c .before .before .before .loop .i) (search needs) (is-CR (c .if1 .taken)))
 
 returns-2 : tie.Need-returns-2 Inv-loop μ-loop
 returns-2 c = omega (arith, clean-stop (c .before .before .before .before .before .args .s .now) (c .before .before .before .before .loop .i) (search needs) (is-LF (c .if2 .taken)))
-
-add-i : tie.Need-add-i Inv-loop μ-loop
-add-i c = search needs
-
-loop-less : tie.Need-loop-less Inv-loop μ-loop
-loop-less c = search needs
 
 loop-again : tie.Need-loop-again Inv-loop μ-loop
 loop-again c = omega (arith, clean-on (c .before .before .before .before .before .args .s .now) (c .before .before .before .before .loop .i) (search needs) (no-end (c .before .if1 .left) (c .if2 .left)))
@@ -44,11 +32,11 @@ clean-len-spec =
     (tie.spec
     Inv-loop
     μ-loop
-    loop-holds
-    shared-slice-read-b
+    (λ c. search needs)
+    (λ c. search needs)
     returns
     returns-2
-    add-i
-    loop-less
+    (λ c. search needs)
+    (λ c. search needs)
     loop-again
     returns-3)

@@ -8,18 +8,6 @@ use Rattle.checker.proofs.Contents.{refused, kept, found-is, in-file}
 use Rattle.checker.proofs.contained.Statement.{statement}
 use Rattle.checker.proofs.contained.Tie as tie
 
-part-requires : tie.Need-part-requires
-part-requires c κs = search needs
-
-name-requires : tie.Need-name-requires
-name-requires c κs = search needs
-
-contents-found-requires : tie.Need-contents-found-requires
-contents-found-requires c κs = search needs
-
-refuse-requires : tie.Need-refuse-requires
-refuse-requires c κs = search needs
-
 returns : tie.Need-returns
 unfolding contentStep
 returns c =
@@ -35,9 +23,6 @@ key-places-requires c κs =
     let at = in-file (pre .1 .1 .1 .1 .0) (pre .1 .1 .1 .1 .1) small in
     (at 1, at 2)
 
-ordered-requires : tie.Need-ordered-requires
-ordered-requires c κs = search needs
-
 returns-2 : tie.Need-returns-2
 unfolding contentStep
 returns-2 c =
@@ -51,11 +36,11 @@ pub contained-spec : {M : Type 1} → statement M
 contained-spec =
     tie.close
     (tie.spec
-    part-requires
-    name-requires
-    contents-found-requires
-    refuse-requires
+    (λ c κs. search needs)
+    (λ c κs. search needs)
+    (λ c κs. search needs)
+    (λ c κs. search needs)
     returns
     key-places-requires
-    ordered-requires
+    (λ c κs. search needs)
     returns-2)

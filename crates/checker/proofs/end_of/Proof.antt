@@ -11,9 +11,6 @@ returns c =
       le-leb _ _ (c .if1 .taken),
     )
 
-shared-slice-read-b : tie.Need-shared-slice-read-b
-shared-slice-read-b c = search needs
-
 returns-2 : tie.Need-returns-2
 returns-2 c =
     simp (
@@ -30,9 +27,6 @@ returns-3 c =
       ne-eqb _ _ (c .before .if2 .left),
       lt-leb _ _ (c .before .before .before .if1 .left),
     )
-
-shared-slice-read-c : tie.Need-shared-slice-read-c
-shared-slice-read-c c = search needs
 
 returns-4 : tie.Need-returns-4
 returns-4 c =
@@ -59,9 +53,9 @@ end-of-spec =
     tie.close
     (tie.spec
     returns
-    shared-slice-read-b
+    (λ c. search needs)
     returns-2
     returns-3
-    shared-slice-read-c
+    (λ c. search needs)
     returns-4
     returns-5)

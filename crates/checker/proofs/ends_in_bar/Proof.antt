@@ -6,14 +6,8 @@ use Rattle.checker.proofs.ends_in_bar.Tie as tie
 returns : tie.Need-returns
 returns c = last-none 124 (c .before .args .s .now) (c .if1 .taken)
 
-sub-i : tie.Need-sub-i
-sub-i c = search needs
-
-shared-slice-read-result : tie.Need-shared-slice-read-result
-shared-slice-read-result c = search needs
-
 returns-2 : tie.Need-returns-2
 returns-2 c = last-at 124 (c .before .before .args .s .now) (c .before .if1 .left)
 
 pub ends-in-bar-spec : {M : Type 1} → statement M
-ends-in-bar-spec = tie.close (tie.spec returns sub-i shared-slice-read-result returns-2)
+ends-in-bar-spec = tie.close (tie.spec returns (λ c. search needs) (λ c. search needs) returns-2)

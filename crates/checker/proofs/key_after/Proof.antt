@@ -4,15 +4,6 @@ use borrow.Author.Needs.{needs}
 use Rattle.checker.proofs.key_after.Statement.{statement}
 use Rattle.checker.proofs.key_after.Tie as tie
 
-mul-h : tie.Need-mul-h
-mul-h c = search needs
-
-element-copy-out-h : tie.Need-element-copy-out-h
-element-copy-out-h c = search needs
-
-key-before-requires : tie.Need-key-before-requires
-key-before-requires c κs = search needs
-
 returns : tie.Need-returns
 unfolding keyAfter
 returns c =
@@ -42,4 +33,4 @@ returns-3 c =
 
 pub key-after-spec : {M : Type 1} → statement M
 key-after-spec =
-    tie.close (tie.spec mul-h element-copy-out-h key-before-requires returns returns-2 returns-3)
+    tie.close (tie.spec (λ c. search needs) (λ c. search needs) (λ c κs. search needs) returns returns-2 returns-3)

@@ -4,18 +4,12 @@ use borrow.Author.Needs.{needs}
 use Rattle.checker.proofs.key_bad.Statement.{statement}
 use Rattle.checker.proofs.key_bad.Tie as tie
 
-key-count-requires : tie.Need-key-count-requires
-key-count-requires c κs = search needs
-
 returns : tie.Need-returns
 unfolding keyOn
 returns c =
     simp (
     no-key _ (c .before .key-count .ensures) (c .if1 .taken)
     )
-
-key-after-requires : tie.Need-key-after-requires
-key-after-requires c κs = search needs
 
 returns-2 : tie.Need-returns-2
 unfolding keyOn
@@ -37,4 +31,4 @@ returns-3 c =
 
 pub key-bad-spec : {M : Type 1} → statement M
 key-bad-spec =
-    tie.close (tie.spec key-count-requires returns key-after-requires returns-2 returns-3)
+    tie.close (tie.spec (λ c κs. search needs) returns (λ c κs. search needs) returns-2 returns-3)

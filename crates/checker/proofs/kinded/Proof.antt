@@ -4,9 +4,6 @@ use borrow.Author.Needs.{needs}
 use Rattle.checker.proofs.kinded.Statement.{statement}
 use Rattle.checker.proofs.kinded.Tie as tie
 
-refuse-requires : tie.Need-refuse-requires
-refuse-requires c κs = search needs
-
 returns : tie.Need-returns
 unfolding kindStep
 returns c =
@@ -14,12 +11,6 @@ returns c =
       c .refuse .ensures,
       eq-eqb _ _ (c .before .if1 .taken),
     )
-
-is-later-requires : tie.Need-is-later-requires
-is-later-requires c κs = search needs
-
-refuse-requires-2 : tie.Need-refuse-requires-2
-refuse-requires-2 c κs = search needs
 
 returns-2 : tie.Need-returns-2
 unfolding kindStep
@@ -30,9 +21,6 @@ returns-2 c =
       c .before .if2 .taken,
       ne-eqb _ _ (c .before .before .before .if1 .left),
     )
-
-placed-requires : tie.Need-placed-requires
-placed-requires c κs = search needs
 
 returns-3 : tie.Need-returns-3
 unfolding kindStep
@@ -48,10 +36,10 @@ pub kinded-spec : {M : Type 1} → statement M
 kinded-spec =
     tie.close
     (tie.spec
-    refuse-requires
+    (λ c κs. search needs)
     returns
-    is-later-requires
-    refuse-requires-2
+    (λ c κs. search needs)
+    (λ c κs. search needs)
     returns-2
-    placed-requires
+    (λ c κs. search needs)
     returns-3)

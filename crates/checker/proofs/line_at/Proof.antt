@@ -4,17 +4,8 @@ use Rattle.checker.proofs.Bytewise.{too-long, within}
 use Rattle.checker.proofs.line_at.Statement.{statement}
 use Rattle.checker.proofs.line_at.Tie as tie
 
-clean-len-requires : tie.Need-clean-len-requires
-clean-len-requires c κs = search needs
-
 returns : tie.Need-returns
 returns c = too-long (c .before .before .before .args .s .now) (c .before .clean-len .ensures) (c .if1 .taken)
-
-tail-requires : tie.Need-tail-requires
-tail-requires c κs = search needs
-
-end-of-requires : tie.Need-end-of-requires
-end-of-requires c κs = search needs
 
 returns-2 : tie.Need-returns-2
 returns-2 c =
@@ -23,4 +14,4 @@ returns-2 c =
 
 pub line-at-spec : {M : Type 1} → statement M
 line-at-spec =
-    tie.close (tie.spec clean-len-requires returns tail-requires end-of-requires returns-2)
+    tie.close (tie.spec (λ c κs. search needs) returns (λ c κs. search needs) (λ c κs. search needs) returns-2)

@@ -5,12 +5,6 @@ use borrow.Author.Needs.{needs}
 use Rattle.checker.proofs.lined.Statement.{statement}
 use Rattle.checker.proofs.lined.Tie as tie
 
-tail-requires : tie.Need-tail-requires
-tail-requires c κs = search needs
-
-line-at-requires : tie.Need-line-at-requires
-line-at-requires c κs = search needs
-
 recorded-requires : tie.Need-recorded-requires
 recorded-requires c κs =
     let p = c .before .before .before .before .before .pre in
@@ -26,9 +20,6 @@ returns c =
       ← c .before .before .before .before .tail .ensures,
     )
 
-refuse-requires : tie.Need-refuse-requires
-refuse-requires c κs = search needs
-
 returns-2 : tie.Need-returns-2
 unfolding lineStep
 returns-2 c =
@@ -42,4 +33,4 @@ returns-2 c =
 pub lined-spec : {M : Type 1} → statement M
 lined-spec =
     tie.close
-    (tie.spec tail-requires line-at-requires recorded-requires returns refuse-requires returns-2)
+    (tie.spec (λ c κs. search needs) (λ c κs. search needs) recorded-requires returns (λ c κs. search needs) returns-2)

@@ -5,18 +5,6 @@ use borrow.Author.Needs.{needs}
 use Rattle.checker.proofs.recorded.Statement.{statement}
 use Rattle.checker.proofs.recorded.Tie as tie
 
-part-requires : tie.Need-part-requires
-part-requires c κs = search needs
-
-ends-in-bar-requires : tie.Need-ends-in-bar-requires
-ends-in-bar-requires c κs = search needs
-
-field-requires : tie.Need-field-requires
-field-requires c κs = search needs
-
-kind-of-requires : tie.Need-kind-of-requires
-kind-of-requires c κs = search needs
-
 kinded-requires : tie.Need-kinded-requires
 kinded-requires c κs =
     let p = c .before .before .before .before .before .before .pre in
@@ -33,9 +21,6 @@ returns c =
       ← c .before .before .before .before .before .part .ensures .0,
     )
 
-refuse-requires : tie.Need-refuse-requires
-refuse-requires c κs = search needs
-
 returns-2 : tie.Need-returns-2
 unfolding recordStep
 returns-2 c =
@@ -50,11 +35,11 @@ pub recorded-spec : {M : Type 1} → statement M
 recorded-spec =
     tie.close
     (tie.spec
-    part-requires
-    ends-in-bar-requires
-    field-requires
-    kind-of-requires
+    (λ c κs. search needs)
+    (λ c κs. search needs)
+    (λ c κs. search needs)
+    (λ c κs. search needs)
     kinded-requires
     returns
-    refuse-requires
+    (λ c κs. search needs)
     returns-2)

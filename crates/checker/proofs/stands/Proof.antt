@@ -6,9 +6,6 @@ use borrow.Author.Needs.{needs}
 use Rattle.checker.proofs.stands.Statement.{statement}
 use Rattle.checker.proofs.stands.Tie as tie
 
-stands-below-requires : tie.Need-stands-below-requires
-stands-below-requires c κs = search needs
-
 returns : tie.Need-returns
 returns c = let a = c .before .args in first-line (a .st) (a .k) (a .d) (c .match .keys1)
 
@@ -43,4 +40,4 @@ returns-6 c =
 pub stands-spec : {M : Type 1} → statement M
 stands-spec =
     tie.close
-    (tie.spec stands-below-requires returns returns-2 returns-3 returns-4 returns-5 returns-6)
+    (tie.spec (λ c κs. search needs) returns returns-2 returns-3 returns-4 returns-5 returns-6)

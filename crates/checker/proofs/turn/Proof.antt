@@ -4,9 +4,6 @@ use borrow.Author.Needs.{needs}
 use Rattle.checker.proofs.turn.Statement.{statement}
 use Rattle.checker.proofs.turn.Tie as tie
 
-stop-requires : tie.Need-stop-requires
-stop-requires c κs = search needs
-
 returns : tie.Need-returns
 unfolding turnOf
 returns c =
@@ -16,9 +13,6 @@ returns c =
       le-leb _ _ (c .before .before .if1 .taken),
       le-ltb _ _ (c .before .before .if1 .taken),
     )
-
-refuse-requires : tie.Need-refuse-requires
-refuse-requires c κs = search needs
 
 returns-2 : tie.Need-returns-2
 unfolding turnOf
@@ -30,9 +24,6 @@ returns-2 c =
       le-ltb _ _ (c .before .before .if1 .taken),
     )
 
-refuse-requires-2 : tie.Need-refuse-requires-2
-refuse-requires-2 c κs = search needs
-
 returns-3 : tie.Need-returns-3
 unfolding turnOf
 returns-3 c =
@@ -42,9 +33,6 @@ returns-3 c =
       lt-ltb _ _ (c .before .before .if1 .left),
       lt-leb _ _ (c .before .before .if1 .left),
     )
-
-refuse-requires-3 : tie.Need-refuse-requires-3
-refuse-requires-3 c κs = search needs
 
 returns-4 : tie.Need-returns-4
 unfolding turnOf
@@ -57,9 +45,6 @@ returns-4 c =
       lt-ltb _ _ (c .before .before .before .if1 .left),
       lt-leb _ _ (c .before .before .before .if1 .left),
     )
-
-lined-requires : tie.Need-lined-requires
-lined-requires c κs = search needs
 
 returns-5 : tie.Need-returns-5
 unfolding turnOf
@@ -77,13 +62,13 @@ pub turn-spec : {M : Type 1} → statement M
 turn-spec =
     tie.close
     (tie.spec
-    stop-requires
+    (λ c κs. search needs)
     returns
-    refuse-requires
+    (λ c κs. search needs)
     returns-2
-    refuse-requires-2
+    (λ c κs. search needs)
     returns-3
-    refuse-requires-3
+    (λ c κs. search needs)
     returns-4
-    lined-requires
+    (λ c κs. search needs)
     returns-5)

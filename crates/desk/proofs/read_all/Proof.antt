@@ -17,17 +17,8 @@ abbrev μ-loop : tie.MeasureT-loop
 loop-holds : tie.Need-loop-holds Inv-loop μ-loop
 loop-holds c = (omega arith, refl)
 
-same-length : tie.Need-same-length Inv-loop μ-loop
-same-length c = search needs
-
 returns : tie.Need-returns Inv-loop μ-loop
 returns c = counts _ _ (omega arith)
-
-add-done : tie.Need-add-done Inv-loop μ-loop
-add-done c = search needs
-
-loop-less : tie.Need-loop-less Inv-loop μ-loop
-loop-less c = omega arith
 
 loop-again : tie.Need-loop-again Inv-loop μ-loop
 loop-again c = (omega arith, omega arith)
@@ -49,10 +40,10 @@ read-all-spec =
     (λ c. omega arith)
     (λ c. omega arith)
     (λ c κs. search needs)
-    same-length
+    (λ c. search needs)
     returns
-    add-done
-    loop-less
+    (λ c. search needs)
+    (λ c. omega arith)
     loop-again
     same-length-2
     returns-2)
