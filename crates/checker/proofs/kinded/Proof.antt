@@ -4,42 +4,21 @@ use borrow.Author.Needs.{needs}
 use Rattle.checker.proofs.kinded.Statement.{statement}
 use Rattle.checker.proofs.kinded.Tie as tie
 
-returns : tie.Need-returns
+pub kinded-spec : {M : Type 1} → statement M
 unfolding kindStep
-returns c =
-    simp (
-      c .refuse .ensures,
-      eq-eqb _ _ (c .before .if1 .taken),
-    )
-
-returns-2 : tie.Need-returns-2
-unfolding kindStep
-returns-2 c =
+kinded-spec =
+    tie.close
+    (tie.spec
+    (λ c κs. search needs)
+    (λ c. simp (c .refuse .ensures, eq-eqb _ _ (c .before .if1 .taken)))
+    (λ c κs. search needs)
+    (λ c κs. search needs)
+    (λ c.
     simp (
       c .refuse2 .ensures,
       ← c .before .before .is-later .ensures,
       c .before .if2 .taken,
       ne-eqb _ _ (c .before .before .before .if1 .left),
-    )
-
-returns-3 : tie.Need-returns-3
-unfolding kindStep
-returns-3 c =
-    simp (
-      c .placed .ensures,
-      ← c .before .before .is-later .ensures,
-      c .before .if2 .left,
-      ne-eqb _ _ (c .before .before .before .if1 .left),
-    )
-
-pub kinded-spec : {M : Type 1} → statement M
-kinded-spec =
-    tie.close
-    (tie.spec
+    ))
     (λ c κs. search needs)
-    returns
-    (λ c κs. search needs)
-    (λ c κs. search needs)
-    returns-2
-    (λ c κs. search needs)
-    returns-3)
+    (λ c. simp (c .placed .ensures, ← c .before .before .is-later .ensures, c .before .if2 .left, ne-eqb _ _ (c .before .before .before .if1 .left))))

@@ -10,27 +10,8 @@ recorded-requires c κs =
     let p = c .before .before .before .before .before .pre in
     (p .0, record { few = p .1 .0; inside = line-fits _ _ (c .before .before .before .tail .ensures) (c .before .before .line-at .ensures) (c .if1 .taken); shallow = p .1 .1 })
 
-returns : tie.Need-returns
-unfolding lineStep
-returns c =
-    simp (
-      c .recorded .ensures,
-      eq-eqb _ _ (c .before .if1 .taken),
-      ← c .before .before .before .line-at .ensures,
-      ← c .before .before .before .before .tail .ensures,
-    )
-
-returns-2 : tie.Need-returns-2
-unfolding lineStep
-returns-2 c =
-    simp (
-      c .refuse .ensures,
-      ne-eqb _ _ (c .before .if1 .left),
-      ← c .before .before .before .line-at .ensures,
-      ← c .before .before .before .before .tail .ensures,
-    )
-
 pub lined-spec : {M : Type 1} → statement M
+unfolding lineStep
 lined-spec =
     tie.close
-    (tie.spec (λ c κs. search needs) (λ c κs. search needs) recorded-requires returns (λ c κs. search needs) returns-2)
+    (tie.spec (λ c κs. search needs) (λ c κs. search needs) recorded-requires (λ c. simp (c .recorded .ensures, eq-eqb _ _ (c .before .if1 .taken), ← c .before .before .before .line-at .ensures, ← c .before .before .before .before .tail .ensures)) (λ c κs. search needs) (λ c. simp (c .refuse .ensures, ne-eqb _ _ (c .before .if1 .left), ← c .before .before .before .line-at .ensures, ← c .before .before .before .before .tail .ensures)))

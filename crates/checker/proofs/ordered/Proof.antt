@@ -4,38 +4,6 @@ use borrow.Author.Needs.{needs}
 use Rattle.checker.proofs.ordered.Statement.{statement}
 use Rattle.checker.proofs.ordered.Tie as tie
 
-returns : tie.Need-returns
-unfolding orderStep
-returns c =
-    simp (
-      c .refuse .ensures,
-      c .before .if1 .taken,
-      ← c .before .before .seen .ensures,
-    )
-
-returns-2 : tie.Need-returns-2
-unfolding orderStep
-returns-2 c =
-    simp (
-      c .refuse2 .ensures,
-      c .before .if2 .taken,
-      ← c .before .before .key-bad .ensures,
-      c .before .before .before .if1 .left,
-      ← c .before .before .before .before .seen .ensures,
-    )
-
-returns-3 : tie.Need-returns-3
-unfolding orderStep
-returns-3 c =
-    simp (
-      c .refuse3 .ensures,
-      lt-ltb _ _ (c .before .if3 .taken),
-      c .before .before .before .if2 .left,
-      ← c .before .before .before .before .key-bad .ensures,
-      c .before .before .before .before .before .if1 .left,
-      ← c .before .before .before .before .before .before .seen .ensures,
-    )
-
 returns-4 : tie.Need-returns-4
 unfolding orderStep
 returns-4 c =
@@ -51,19 +19,35 @@ returns-4 c =
     )
 
 pub ordered-spec : {M : Type 1} → statement M
+unfolding orderStep
 ordered-spec =
     tie.close
     (tie.spec
     (λ c κs. search needs)
     (λ c κs. search needs)
-    returns
+    (λ c. simp (c .refuse .ensures, c .before .if1 .taken, ← c .before .before .seen .ensures))
     (λ c κs. search needs)
     (λ c κs. search needs)
-    returns-2
+    (λ c.
+    simp (
+      c .refuse2 .ensures,
+      c .before .if2 .taken,
+      ← c .before .before .key-bad .ensures,
+      c .before .before .before .if1 .left,
+      ← c .before .before .before .before .seen .ensures,
+    ))
     (λ c. search needs)
     (λ c. search needs)
     (λ c κs. search needs)
-    returns-3
+    (λ c.
+    simp (
+      c .refuse3 .ensures,
+      lt-ltb _ _ (c .before .if3 .taken),
+      c .before .before .before .if2 .left,
+      ← c .before .before .before .before .key-bad .ensures,
+      c .before .before .before .before .before .if1 .left,
+      ← c .before .before .before .before .before .before .seen .ensures,
+    ))
     (λ c κs. search needs)
     (λ c κs. search needs)
     returns-4)

@@ -3,27 +3,8 @@ use borrow.Author.Needs.{needs}
 use Rattle.checker.proofs.placed.Statement.{statement}
 use Rattle.checker.proofs.placed.Tie as tie
 
-returns : tie.Need-returns
-unfolding placeStep
-returns c =
-    simp (
-      c .counted .ensures,
-      c .before .if1 .taken,
-      ← c .before .before .stands .ensures,
-      ← c .before .before .before .held-at .ensures .0,
-    )
-
-returns-2 : tie.Need-returns-2
-unfolding placeStep
-returns-2 c =
-    simp (
-      c .refuse .ensures,
-      c .before .if1 .left,
-      ← c .before .before .stands .ensures,
-      ← c .before .before .before .held-at .ensures .0,
-    )
-
 pub placed-spec : {M : Type 1} → statement M
+unfolding placeStep
 placed-spec =
     tie.close
-    (tie.spec (λ c κs. search needs) (λ c κs. search needs) (λ c κs. search needs) returns (λ c κs. search needs) returns-2)
+    (tie.spec (λ c κs. search needs) (λ c κs. search needs) (λ c κs. search needs) (λ c. simp (c .counted .ensures, c .before .if1 .taken, ← c .before .before .stands .ensures, ← c .before .before .before .held-at .ensures .0)) (λ c κs. search needs) (λ c. simp (c .refuse .ensures, c .before .if1 .left, ← c .before .before .stands .ensures, ← c .before .before .before .held-at .ensures .0)))

@@ -10,28 +10,8 @@ kinded-requires c κs =
     let p = c .before .before .before .before .before .before .pre in
     (p .0, (rw (c .kind-of .ensures) (kind-bound _ _), p .1))
 
-returns : tie.Need-returns
-unfolding recordStep
-returns c =
-    simp (
-      c .kinded .ensures,
-      ← kind-is _ (c .before .before .before .before .before .before .before .pre .0 .names-is) (c .before .kind-of .ensures) (c .before .before .field .ensures .0),
-      c .before .before .before .if1 .taken,
-      ← c .before .before .before .before .ends-in-bar .ensures,
-      ← c .before .before .before .before .before .part .ensures .0,
-    )
-
-returns-2 : tie.Need-returns-2
-unfolding recordStep
-returns-2 c =
-    simp (
-      c .refuse .ensures,
-      c .before .if1 .left,
-      ← c .before .before .ends-in-bar .ensures,
-      ← c .before .before .before .part .ensures .0,
-    )
-
 pub recorded-spec : {M : Type 1} → statement M
+unfolding recordStep
 recorded-spec =
     tie.close
     (tie.spec
@@ -40,6 +20,13 @@ recorded-spec =
     (λ c κs. search needs)
     (λ c κs. search needs)
     kinded-requires
-    returns
+    (λ c.
+    simp (
+      c .kinded .ensures,
+      ← kind-is _ (c .before .before .before .before .before .before .before .pre .0 .names-is) (c .before .kind-of .ensures) (c .before .before .field .ensures .0),
+      c .before .before .before .if1 .taken,
+      ← c .before .before .before .before .ends-in-bar .ensures,
+      ← c .before .before .before .before .before .part .ensures .0,
+    ))
     (λ c κs. search needs)
-    returns-2)
+    (λ c. simp (c .refuse .ensures, c .before .if1 .left, ← c .before .before .ends-in-bar .ensures, ← c .before .before .before .part .ensures .0)))
