@@ -11,48 +11,7 @@ static text_line *any_line(declaration *d)
     return &d->line[chance(d->count)];
 }
 
-static int is_obligatory(const plain_row *r) { return r->obligatory; }
-static int is_number(const plain_row *r) { return r->format != 'C'; }
-static int is_any(const plain_row *r) { return r->size > 0; }
-static int has_no_zero_in_front(const plain_row *r) { return r->amount || r->months || r->ddd; }
-static int is_date(const plain_row *r) { return r->format == 'D'; }
-static int has_values(const plain_row *r) { return r->values != NULL; }
-
-/* A field past the identifier, of some line, that has what is wanted. */
-static text_line *any_field(declaration *d, int (*wanted)(const plain_row *), unsigned *f, plain_row *row)
-{
-    for (unsigned tries = 0; tries < 100; tries++) {
-        text_line *line = any_line(d);
-        unsigned count = plain_fields(line->kind);
-        if (count < 2)
-            continue;
-        *f = 2 + chance(count - 1);
-        *row = plain_field_row(line->kind, *f);
-        if (wanted(row))
-            return line;
-    }
-    return NULL;
-}
-
-/* A line whose kind has this role, and its place. */
-static text_line *any_of_role(declaration *d, int first, int last, unsigned *at)
-{
-    for (unsigned tries = 0; tries < 100; tries++) {
-        *at = chance(d->count);
-        int role = plain_records[d->line[*at].kind].role;
-        if (first <= role && role <= last)
-            return &d->line[*at];
-    }
-    return NULL;
-}
-
-static int repeat_line(declaration *d, unsigned at)
-{
-    text_line copy = d->line[at], *line = insert_line(d, at + 1);
-    if (line)
-        *line = copy;
-    return line != NULL;
-}
+/* ---- 1 to 12 */
 
 /* 1: the lines from some place on are missing. */
 static int not_closed(declaration *d)
@@ -187,97 +146,117 @@ static int misplaced(declaration *d)
     return 1;
 }
 
-/* 13 */
-static int emptied(declaration *d)
+/* ---- 13 to 18: which fields the number can be given for, and what stands there instead, with its length */
+
+static int is_obligatory(const plain_row *r) { return r->obligatory; }
+static int is_number(const plain_row *r) { return r->format != 'C'; }
+static int is_any(const plain_row *r) { return r->size > 0; }
+static int has_no_zero_in_front(const plain_row *r) { return r->amount || r->months || r->ddd; }
+static int is_date(const plain_row *r) { return r->format == 'D'; }
+static int has_values(const plain_row *r) { return r->values != NULL; }
+
+static unsigned nothing(const plain_row *row, uint8_t *text)
 {
-    unsigned f;
-    plain_row row;
-    text_line *line = any_field(d, is_obligatory, &f, &row);
-    if (line)
-        set_field(line, f, "", 0);
-    return line != NULL;
+    (void)row, (void)text;
+    return 0;
 }
 
-/* 14: one byte that is no digit, or a mask. */
-static int wrong_byte(declaration *d)
+/* One byte that is no digit, or a mask. */
+static unsigned wrong_byte(const plain_row *row, uint8_t *text)
 {
-    unsigned f;
-    plain_row row;
-    uint8_t text[64];
-    text_line *line = any_field(d, is_number, &f, &row);
-    if (!line)
-        return 0;
     if (chance(3) == 0) {
-        set_field(line, f, "111.444.777-35", 14);
-        return 1;
+        memcpy(text, "111.444.777-35", 14);
+        return 14;
     }
-    unsigned len = sound_digits(row.fixed ? row.size : 1 + chance(row.size), text);
+    unsigned len = sound_digits(row->fixed ? row->size : 1 + chance(row->size), text);
     text[chance(len)] = (uint8_t)"./:-, AS\0\x80\xff"[chance(11)];
-    set_field(line, f, text, len);
-    return 1;
+    return len;
 }
 
-/* 15: a byte more than the size, or another length by chance. */
-static int wrong_size(declaration *d)
+/* A byte more than the size, or another length by chance. */
+static unsigned wrong_size(const plain_row *row, uint8_t *text)
 {
-    unsigned f;
-    plain_row row;
-    uint8_t text[256];
-    text_line *line = any_field(d, is_any, &f, &row);
-    if (!line)
-        return 0;
-    unsigned len = chance(2) ? row.size + 1 : 1 + chance(row.size + 3);
-    memset(text, 'A', sizeof text);
-    if (row.format != 'C')
+    unsigned len = chance(2) ? row->size + 1 : 1 + chance(row->size + 3);
+    memset(text, 'A', len);
+    if (row->format != 'C')
         sound_digits(len, text);
-    set_field(line, f, text, len);
-    return 1;
+    return len;
 }
 
-/* 16 */
-static int zero_in_front(declaration *d)
+static unsigned zero_in_front(const plain_row *row, uint8_t *text)
 {
-    unsigned f;
-    plain_row row;
-    uint8_t text[64];
-    text_line *line = any_field(d, has_no_zero_in_front, &f, &row);
-    if (!line)
-        return 0;
-    unsigned len = sound_digits(row.ddd ? 2 : 1 + chance(row.size), text);
+    unsigned len = sound_digits(row->ddd ? 2 : 1 + chance(row->size), text);
     text[0] = '0';
-    set_field(line, f, text, len);
-    return 1;
+    return len;
 }
 
-/* 17 */
-static int no_such_date(declaration *d)
+static unsigned no_such_date(const plain_row *row, uint8_t *text)
 {
     static const char *const dates[] = {"20230229", "19000229", "21000101", "18991231", "20240431", "20241301", "20240001", "20240100", "20240230", "00000000"};
-    unsigned f;
-    plain_row row;
-    uint8_t text[64];
-    text_line *line = any_field(d, is_date, &f, &row);
-    if (!line)
-        return 0;
+    (void)row;
     sound_digits(8, text);
-    set_field(line, f, chance(3) ? (const void *)dates[chance(10)] : text, 8);
-    return 1;
+    if (chance(3))
+        memcpy(text, dates[chance(10)], 8);
+    return 8;
 }
 
-/* 18: as long as a value, of the same format, and seldom one of them. */
-static int no_such_value(declaration *d)
+/* As long as a value, of the same format, and seldom one of them. */
+static unsigned no_such_value(const plain_row *row, uint8_t *text)
 {
-    unsigned f;
-    plain_row row;
-    uint8_t text[64];
-    text_line *line = any_field(d, has_values, &f, &row);
-    if (!line)
-        return 0;
-    sound_digits(row.size, text);
-    if (row.format == 'C')
-        text[chance(row.size)] = (uint8_t)('A' + chance(26));
-    set_field(line, f, text, row.size);
-    return 1;
+    sound_digits(row->size, text);
+    if (row->format == 'C')
+        text[chance(row->size)] = (uint8_t)('A' + chance(26));
+    return row->size;
+}
+
+static const struct {
+    int (*wanted)(const plain_row *);
+    unsigned (*other)(const plain_row *, uint8_t *);
+} in_field[] = {
+    [13] = {is_obligatory, nothing}, [14] = {is_number, wrong_byte}, [15] = {is_any, wrong_size},
+    [16] = {has_no_zero_in_front, zero_in_front}, [17] = {is_date, no_such_date}, [18] = {has_values, no_such_value},
+};
+enum { FIRST_IN_FIELD = 13, LAST_IN_FIELD = 18 };
+
+/* Puts something else into a field past the identifier, of some line, that the number can be given for. */
+static int break_field(declaration *d, unsigned number)
+{
+    uint8_t text[256];
+    for (unsigned tries = 0; tries < 100; tries++) {
+        text_line *line = any_line(d);
+        unsigned count = plain_fields(line->kind);
+        if (count < 2)
+            continue;
+        unsigned f = 2 + chance(count - 1);
+        plain_row row = plain_field_row(line->kind, f);
+        if (!in_field[number].wanted(&row))
+            continue;
+        set_field(line, f, text, in_field[number].other(&row, text));
+        return 1;
+    }
+    return 0;
+}
+
+/* ---- 19 to 21 */
+
+/* A line whose kind has this role, and its place. */
+static text_line *any_of_role(declaration *d, int first, int last, unsigned *at)
+{
+    for (unsigned tries = 0; tries < 100; tries++) {
+        *at = chance(d->count);
+        int role = plain_records[d->line[*at].kind].role;
+        if (first <= role && role <= last)
+            return &d->line[*at];
+    }
+    return NULL;
+}
+
+static int repeat_line(declaration *d, unsigned at)
+{
+    text_line copy = d->line[at], *line = insert_line(d, at + 1);
+    if (line)
+        *line = copy;
+    return line != NULL;
 }
 
 /* 19: field 8 of DECPF is S, and the others by chance. */
@@ -319,19 +298,25 @@ static int repeated(declaration *d)
 
 static int (*const breakers[])(declaration *) = {
     [1] = not_closed, [2] = after_the_end, [4] = too_long, [5] = cut_short, [6] = wrong_end, [8] = no_last_bar,
-    [9] = unknown, [10] = left_for_later, [11] = wrong_count, [12] = misplaced, [13] = emptied, [14] = wrong_byte,
-    [15] = wrong_size, [16] = zero_in_front, [17] = no_such_date, [18] = no_such_value, [19] = broken_condition,
-    [20] = not_greater, [21] = repeated,
+    [9] = unknown, [10] = left_for_later, [11] = wrong_count, [12] = misplaced, [19] = broken_condition, [20] = not_greater,
+    [21] = repeated,
 };
+
+static int is_in_field(unsigned number)
+{
+    return FIRST_IN_FIELD <= number && number <= LAST_IN_FIELD;
+}
 
 int can_break(unsigned number)
 {
-    return number < sizeof breakers / sizeof *breakers && breakers[number] != NULL;
+    return is_in_field(number) || (number < sizeof breakers / sizeof *breakers && breakers[number] != NULL);
 }
 
 int break_rule(declaration *d, unsigned number)
 {
-    return can_break(number) && d->count > 0 && breakers[number](d);
+    if (d->count == 0 || !can_break(number))
+        return 0;
+    return is_in_field(number) ? break_field(d, number) : breakers[number](d);
 }
 
 static void put_byte(file_text *file, size_t at, uint8_t byte)
