@@ -10,7 +10,7 @@ use native.Mathlib.Numerals.{add-one}
 use lib.Dec.{eqb}
 use lib.ListN.{length, getD, set, length-set}
 use lib.Seq.{getD-set-same, getD-set-other}
-use borrow.Author.Tests.{eqb-true, eqb-false, eq-eqb, ne-eqb, lt-leb}
+use borrow.Author.Tests.{eqb-true, eqb-false, eq-eqb, ne-eqb}
 use Rattle.dirf.specs.Bytes.{if_then_else_, Text}
 use Rattle.dirf.specs.Kinds.{isValue}
 use Rattle.dirf.specs.Edition.{edition2025}
@@ -25,7 +25,7 @@ use Rattle.dirf.proofs.OpenRecords.{OpenRecords, none-open, innermost, first-nu
 use Rattle.dirf.proofs.ValuePlace.{open-depth, value-place}
 use Rattle.dirf.proofs.Siblings.{rec-last, rec-earlier, last-skip, last-here, none-under}
 use Rattle.dirf.proofs.Edition2025.{sound2025}
-use Rattle.checker.specs.State.{deepest, heldAt, declarantOf, afterValue, afterOpening, commitState}
+use Rattle.checker.specs.State.{heldAt, declarantOf, afterValue, afterOpening, commitState}
 use Rattle.checker.specs.declared.KeyPlaces.{KeyPlaces}
 use Rattle.checker.specs.declared.State.{State}
 use Rattle.checker.proofs.Sums.{KeyIs, keyAt, IsOpen, Stack, Sums, Located, located, none-seen}
@@ -179,6 +179,4 @@ module _ (file : Text) (st : State) (before : List Rec) (h : Sums file st before
   pub sums-next : (len : ℕ) (q : KeyPlaces) → len ≡ length line → KeyIs file q line → k < 74 → Sums file (commitState st k (heldAt st k) len q) (r ∷ before)
   unfolding commitState
   sums-next len q e key small =
-      if-cases (λ (to : State). Sums file to (r ∷ before)) (isValue k) (value-next len e small)
-      (λ v. rw (lt-leb deepest (heldAt st k) (omega (arith, located file st before k h .deep, open-depth (placed edition2025 sound2025 (h .history) k .known), opens-level k v)))
-      (opening-next len q e key v))
+      if-cases (λ (to : State). Sums file to (r ∷ before)) (isValue k) (value-next len e small) (opening-next len q e key)

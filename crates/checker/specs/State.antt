@@ -127,24 +127,6 @@ afterOpening st k d len q =
       seen = replicate 74 false;
     }
 
--- the same with no place left among the open records, which never happens
-abbrev pub afterTooDeep : State → ℕ → ℕ → ℕ → State
-afterTooDeep st k d len =
-    record {
-      count = st .count + 1;
-      at = st .at + len + 2;
-      done = eqb k FIMDirf;
-      declarant = declarantOf st k;
-      depth = d + 1;
-      lines = st .lines;
-      kinds = st .kinds;
-      start2 = st .start2;
-      len2 = st .len2;
-      start3 = st .start3;
-      len3 = st .len3;
-      seen = replicate 74 false;
-    }
-
+-- after a line that was taken
 unfoldable pub commitState : State → ℕ → ℕ → ℕ → KeyPlaces → State
-commitState st k d len q =
-    if isValue k then afterValue st k len else if leb deepest d then afterTooDeep st k d len else afterOpening st k d len q
+commitState st k d len q = if isValue k then afterValue st k len else afterOpening st k d len q
