@@ -12,11 +12,12 @@ use Rattle.dirf.specs.Lines.{fields}
 use Rattle.dirf.specs.Order.{kindOfLine}
 use Rattle.dirf.specs.Rules.{Found, keeps, breaks}
 use Rattle.dirf.specs.Written.{Written, writes, outputAfter}
-use Rattle.dirf.specs.Amounts.{readAmount, readMonths, writeAmount, writeMonths, amounts-opens}
+use Rattle.dirf.specs.Amounts.{Reading, readAmount, readMonths, amounts-opens}
 use Rattle.dirf.specs.LineWriter.{writeLine}
 use Rattle.dirf.specs.Theorems.ThereAndBack.{Sound-line, wholeLine, ReadsBack, together}
 use Rattle.dirf.proofs.NumbersBack.{numbers-back}
 use Rattle.dirf.proofs.Demands.{demands2025}
+use Rattle.writer.specs.declared.NumberWritten.{NumberWritten}
 use Rattle.writer.specs.Answers.{numberWritten, lineWritten}
 use Rattle.writer.proofs.write_amount.Reads as amount
 use Rattle.writer.proofs.write_months.Reads as months
@@ -50,13 +51,16 @@ careful f text before n c o =
       behind = behind-it (writes f text) before c o;
     }
 
+-- a number written is read back by a reader that reads back what the definition writes
+number-back : (w : Written) (before : Text) {r : NumberWritten} {after : Text} → r ≡ numberWritten w → after ≡ outputAfter w before → (read : Text → Reading) (v : Reading)
+    → (w .number ≡ 0 → read (w .bytes) ≡ v) → r .number ≡ 0 → read (take (r .count) after) ≡ v
+unfolding numberWritten
+number-back w before p o read v known e = rw (front w before (ap (λ r. r .count) p) o) (known (sym (ap (λ r. r .number) p) ∙ e))
+
+-- arguments: the number, the output
 module _ (κs : _) (a : _) (r : _) (s : _) (p : amount.Post κs a r s) where
   pub amount-back : r .number ≡ 0 → readAmount (take (r .count) (now (s .1 .0))) ≡ record { number = 0; value = a .0 .0 }
-  unfolding numberWritten
-  amount-back e =
-      let w = writeAmount (a .0 .0) (length (now (a .1 .0))) in
-      let n : w .number ≡ 0 = sym (ap (λ r. r .number) (p .0)) ∙ e in
-      rw (front w (now (a .1 .0)) (ap (λ r. r .count) (p .0)) (p .1)) (numbers-back .amount-back (a .0 .0) (length (now (a .1 .0))) n)
+  amount-back = number-back _ (now (a .1 .0)) (p .0) (p .1) readAmount _ (numbers-back .amount-back (a .0 .0) (length (now (a .1 .0))))
 
   pub amount-careful : Careful (r .number) (r .count) (now (a .1 .0)) (now (s .1 .0))
   unfolding numberWritten amounts-opens
@@ -64,11 +68,7 @@ module _ (κs : _) (a : _) (r : _) (s : _) (p : amount.Post κs a r s) where
 
 module _ (κs : _) (a : _) (r : _) (s : _) (p : months.Post κs a r s) where
   pub months-back : r .number ≡ 0 → readMonths (take (r .count) (now (s .1 .0))) ≡ record { number = 0; value = a .0 .0 }
-  unfolding numberWritten
-  months-back e =
-      let w = writeMonths (a .0 .0) (length (now (a .1 .0))) in
-      let n : w .number ≡ 0 = sym (ap (λ r. r .number) (p .0)) ∙ e in
-      rw (front w (now (a .1 .0)) (ap (λ r. r .count) (p .0)) (p .1)) (numbers-back .months-back (a .0 .0) (length (now (a .1 .0))) n)
+  months-back = number-back _ (now (a .1 .0)) (p .0) (p .1) readMonths _ (numbers-back .months-back (a .0 .0) (length (now (a .1 .0))))
 
   pub months-careful : Careful (r .number) (r .count) (now (a .1 .0)) (now (s .1 .0))
   unfolding numberWritten amounts-opens
