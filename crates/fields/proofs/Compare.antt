@@ -1,6 +1,6 @@
 -- Two texts compared a byte at a time, from byte i on.
 use Prim.Native.Nat.{ℕ, _+_, _≤_, _<_}
-use mathlib.Core.Path.{_≡_, refl}
+use mathlib.Core.Path.{_≡_, refl, ap}
 use mathlib.Core.Bool.{Bool, true, false, or-false}
 use native.Mathlib.Numerals.{add-one}
 use native.Mathlib.Omega.{arith}
@@ -9,6 +9,10 @@ use lib.ListN.{length, getD, drop, drop-of-length-le}
 use lib.Seq.{drop-cons}
 use borrow.Author.Tests.{eq-eqb, ne-eqb, le-ltb, ltb-true, ltb-false}
 use Rattle.dirf.specs.Bytes.{Text, same, less}
+use Rattle.dirf.proofs.Says.{denies, same-says}
+
+pub same-longer : (a b : Text) → (length a ≡ length b → ⊥) → same a b ≡ false
+same-longer a b h = denies (same a b) (same-says a b) .1 (λ e. h (ap length e))
 
 module _ (a b : Text) (i : ℕ) where
   pub same-on : getD a i 0 ≡ getD b i 0 → i < length a → i < length b
@@ -19,14 +23,6 @@ module _ (a b : Text) (i : ℕ) where
   pub same-off : (getD a i 0 ≡ getD b i 0 → ⊥) → i < length a → i < length b → same (drop i a) (drop i b) ≡ false
   unfolding same
   same-off e h k = rw (drop-cons a i 0, drop-cons b i 0, ne-eqb (getD a i 0) (getD b i 0) e, same)
-
-  pub same-short : i < length a → length b ≤ i → same (drop i a) (drop i b) ≡ false
-  unfolding same
-  same-short h k = rw (drop-cons a i 0, drop-of-length-le b k)
-
-  pub same-long : length a ≤ i → i < length b → same (drop i a) (drop i b) ≡ false
-  unfolding same
-  same-long h k = rw (drop-of-length-le a h, drop-cons b i 0)
 
   pub same-end : length a ≤ i → length b ≤ i → same (drop i a) (drop i b) ≡ true
   unfolding same

@@ -42,18 +42,16 @@ pub fn part(s: &[u8], start: usize, len: usize) -> &[u8]
 pub fn same(a: &[u8], b: &[u8]) -> bool
     ensures { λ r. ⌜ r ≡ sameText (now (a .entry)) (now (b .entry)) ⌝ }
 {
+    // most pairs differ in length already
+    if a.len() != b.len() {
+        return false;
+    }
     let mut i = 0;
     while i < a.len() {
-        if b.len() <= i {
-            return false;
-        }
         if a[i] != b[i] {
             return false;
         }
         i += 1;
-    }
-    if i < b.len() {
-        return false;
     }
     true
 }
