@@ -14,7 +14,6 @@ use Rattle.dirf.specs.Lines.{isLineEnd, clean, unclean}
 use Rattle.dirf.specs.Keys.{keyFields, hasKey}
 use Rattle.checker.specs.State.{above}
 use Rattle.checker.specs.Turn.{bad, endOf, lineAt}
-use Rattle.checker.specs.declared.State.{State}
 
 -- the bytes before a CR or LF, from byte i on
 module _ (s : Text) (i : ℕ) where

@@ -1,6 +1,4 @@
 -- Past the last place the definition sets nothing either.
-use Prim.Native.Nat.{_≤_}
-use lib.ListN.{length}
 use lib.Seq.{set-out}
 use borrow.Author.Needs.{needs}
 use native.Mathlib.Omega.{arith}
