@@ -49,7 +49,8 @@ module _ (st : State) (k : ℕ) (name : Text) (rows : List Row) (cells : List Te
       go (breaks n i) e p = absurd (omega (arith, ltb-true 0 n p, ap (λ (y : Finding). y .number) e))
 
 -- what is found with the lent tables is what is found with those of 2025
-pub found-is : (k : ℕ) (p : Places) {names rows : List ℕ} {name bytes line : Text} {f : Finding} → names ≡ nameTable → rows ≡ rowTable → name ≡ nameIn names k → bytes ≡ line
+pub found-is : (k : ℕ) (p : Places) {names rows : List ℕ} {name bytes line : Text} {f : Finding} → names ≡ nameTable → rows ≡ rowTable
+    → name ≡ nameIn names k → bytes ≡ line
     → f ≡ findingOf (contentsFound k name (rowsIn rows k) (cellsAt bytes p))
     → f ≡ findingOf (contentsFound k (nameOf edition2025 k) (rowsOf edition2025 k) (cellsAt line p))
 found-is k p {rows = rows} {name = name} t u n b e =
@@ -58,7 +59,8 @@ found-is k p {rows = rows} {name = name} t u n b e =
     rw (names, rights, b) at e
 
 -- the places of a line in a file are numbers of the machine
-pub in-file : {file : Text} {st : State} {len : ℕ} {p : Places} → Fits file st len → p ≡ placesOf (partOf file (st .at) len) → length file < 18446744073709551616 → (i : ℕ)
+pub in-file : {file : Text} {st : State} {len : ℕ} {p : Places} → Fits file st len → p ≡ placesOf (partOf file (st .at) len)
+    → length file < 18446744073709551616 → (i : ℕ)
     → st .at + getD (p .starts) i 0 < 18446744073709551616
 in-file {file} {st} {len} h e l i =
     let line = partOf file (st .at) len in

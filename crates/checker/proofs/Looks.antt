@@ -36,7 +36,8 @@ module _ (file : Text) (st : State) (before : List Rec) (k : ℕ) (h : Sums file
   unfolding seenOn parentOf
   seen-same = go (isValue k) refl
     where
-      go : (t : Bool) → isValue k ≡ t → (t && getD (st .seen) k false) ≡ (t && isSome (lastUnder before (numberOfFirst (place edition2025 before k .up)) k))
+      go : (t : Bool) → isValue k ≡ t
+          → (t && getD (st .seen) k false) ≡ (t && isSome (lastUnder before (numberOfFirst (place edition2025 before k .up)) k))
       go true v = h .seen k v ∙ ap (λ os. isSome (lastUnder before (numberOfFirst os) k)) (sym (value-place edition2025 sound2025 (h .history) k v stands))
       go false v = refl
 
@@ -61,7 +62,8 @@ module _ (file : Text) (st : State) (before : List Rec) (k : ℕ) (h : Sums file
           pick true e = ap not e
           pick false e = refl
 
-      go : (t : Bool) → hasKey k ≡ t → (t && not (keyAfter file st k (heldAt st k) q)) ≡ (t && notAfter k (fields line) (lastUnder before (parentOf edition2025 before k) k))
+      go : (t : Bool) → hasKey k ≡ t
+          → (t && not (keyAfter file st k (heldAt st k) q)) ≡ (t && notAfter k (fields line) (lastUnder before (parentOf edition2025 before k) k))
       go true t =
           ap (λ n. not (keyAfter file st k n q)) (located file st before k h .deep)
           ∙ after (place edition2025 before k .last) (located file st before k h .inside)

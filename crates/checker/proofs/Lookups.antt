@@ -21,7 +21,8 @@ use Rattle.checker.specs.declared.State.{State}
 use Rattle.checker.specs.declared.Line.{Line}
 use Rattle.checker.proofs.Scan.{read}
 
-pub kind-is : (line : Text) {names : List ℕ} {k : ℕ} {s : Text} → names ≡ nameTable → k ≡ kindIn (namesIn names) s → s ≡ fieldOf 1 line → k ≡ kindOfLine edition2025 line
+pub kind-is : (line : Text) {names : List ℕ} {k : ℕ} {s : Text} → names ≡ nameTable → k ≡ kindIn (namesIn names) s → s ≡ fieldOf 1 line
+    → k ≡ kindOfLine edition2025 line
 unfolding kindOfLine kindOf fieldOf edition2025
 kind-is line {s = s} t e f = e ∙ ap (λ n. kindIn (namesIn n) s) t ∙ ap (λ n. kindIn n s) names-2025 ∙ ap (kindOf edition2025) f
 
@@ -29,7 +30,8 @@ pub count-is : (k : ℕ) {rows : List ℕ} {n : ℕ} → rows ≡ rowTable → n
 count-is k t e = e ∙ ap (λ r. countIn r k) t ∙ sym (rows-length rowTable k) ∙ ap length (rows-2025 k)
 
 -- one more of the open records, from the innermost outwards
-pub held-step : (st : State) (k i : ℕ) {pf pj : List (List ℕ)} {u : ℕ} {t : Bool} → pf ≡ pfTable → pj ≡ pjTable → 0 < i → u ≡ above (st .kinds) (i - 1)
+pub held-step : (st : State) (k i : ℕ) {pf pj : List (List ℕ)} {u : ℕ} {t : Bool} → pf ≡ pfTable → pj ≡ pjTable → 0 < i
+    → u ≡ above (st .kinds) (i - 1)
     → t ≡ holdsIn pf pj (st .declarant) (getD (st .kinds) (i - 1) 0) u k
     → heldIn (st .declarant) (st .kinds) k i ≡ (if t then i else heldIn (st .declarant) (st .kinds) k (i - 1))
 unfolding heldIn

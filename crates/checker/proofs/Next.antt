@@ -33,7 +33,8 @@ use Rattle.checker.proofs.Sums.{KeyIs, keyAt, IsOpen, Stack, Sums, Loca
 -- open records further out than d stay where they are
 module _ (file : Text) (st to : State) (r : Rec) (before : List Rec) (d : ℕ)
     (kept : (i : ℕ) → i < d → (getD (to .lines) i 0 ≡ getD (st .lines) i 0) × (getD (to .kinds) i 0 ≡ getD (st .kinds) i 0) × (keyAt to i ≡ keyAt st i)) where
-  stack-on : {n l : ℕ} {os : List Open} → OpenRecords before n l os → n ≤ suc (length before) → length os ≤ d → Stack file st before os → Stack file to (r ∷ before) os
+  stack-on : {n l : ℕ} {os : List Open} → OpenRecords before n l os → n ≤ suc (length before) → length os ≤ d → Stack file st before os
+      → Stack file to (r ∷ before) os
   stack-on (none-open z) small fits s = tt
   stack-on (innermost {o = o} {outer = outer} a b known h) small fits s = (
     record {
@@ -82,7 +83,8 @@ module _ (file : Text) (st : State) (before : List Rec) (h : Sums file st before
         history = next stands refl (h .history);
       }
     where
-      seen-next : (j : ℕ) → isValue j ≡ true → getD (set (st .seen) k true) j false ≡ isSome (lastUnder (r ∷ before) (numberOfFirst (opened before)) j)
+      seen-next : (j : ℕ) → isValue j ≡ true
+          → getD (set (st .seen) k true) j false ≡ isSome (lastUnder (r ∷ before) (numberOfFirst (opened before)) j)
       seen-next j w = go (eqb k j) refl
         where
           go : (t : Bool) → eqb k j ≡ t → getD (set (st .seen) k true) j false ≡ isSome (lastUnder (r ∷ before) (numberOfFirst (opened before)) j)
@@ -96,7 +98,8 @@ module _ (file : Text) (st : State) (before : List Rec) (h : Sums file st before
               (getD-set-other (st .seen) k j true false (λ x. other (sym x)) ∙ h .seen j w)
 
   -- a record that opens, with `up` outside it
-  opening-next : (len : ℕ) (q : KeyPlaces) → len ≡ length line → KeyIs file q line → isValue k ≡ false → Sums file (afterOpening st k (heldAt st k) len q) (r ∷ before)
+  opening-next : (len : ℕ) (q : KeyPlaces) → len ≡ length line → KeyIs file q line → isValue k ≡ false
+      → Sums file (afterOpening st k (heldAt st k) len q) (r ∷ before)
   unfolding closed opened isSome keyAt parentOf numberOfFirst
   opening-next len q e key v =
       record {
@@ -148,7 +151,8 @@ module _ (file : Text) (st : State) (before : List Rec) (h : Sums file st before
       up-is : from (parentOf edition2025 before k) (opened before) ≡ up
       up-is = p .found
 
-      kept : (i : ℕ) → i < length up → (getD (to .lines) i 0 ≡ getD (st .lines) i 0) × (getD (to .kinds) i 0 ≡ getD (st .kinds) i 0) × (keyAt to i ≡ keyAt st i)
+      kept : (i : ℕ) → i < length up
+          → (getD (to .lines) i 0 ≡ getD (st .lines) i 0) × (getD (to .kinds) i 0 ≡ getD (st .kinds) i 0) × (keyAt to i ≡ keyAt st i)
       kept i small =
           let other : i ≢ d = λ e. omega (arith, l .deep) in (
             getD-set-other (st .lines) d i n 0 other,
@@ -176,7 +180,8 @@ module _ (file : Text) (st : State) (before : List Rec) (h : Sums file st before
             ) key;
           })
 
-  pub sums-next : (len : ℕ) (q : KeyPlaces) → len ≡ length line → KeyIs file q line → k < 74 → Sums file (commitState st k (heldAt st k) len q) (r ∷ before)
+  pub sums-next : (len : ℕ) (q : KeyPlaces) → len ≡ length line → KeyIs file q line → k < 74
+      → Sums file (commitState st k (heldAt st k) len q) (r ∷ before)
   unfolding commitState
   sums-next len q e key small =
       if-cases (λ (to : State). Sums file to (r ∷ before)) (isValue k) (value-next len e small) (opening-next len q e key)

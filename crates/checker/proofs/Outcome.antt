@@ -113,7 +113,8 @@ module _ (file : Text) (st : State) (before : List Rec) (h : Sums file st before
     unfolding given orElse
     try n f t u s g e o = subst (λ x. Outcome file before r rest (if x then halt st n f else s) (orElse (given n f u) g)) (sym e) (go u o)
       where
-        go : (u : Bool) → (u ≡ false → Outcome file before r rest s g) → Outcome file before r rest (if u then halt st n f else s) (orElse (given n f u) g)
+        go : (u : Bool) → (u ≡ false → Outcome file before r rest s g)
+            → Outcome file before r rest (if u then halt st n f else s) (orElse (given n f u) g)
         go true o = gave n f
         go false o = o refl
 
@@ -122,12 +123,14 @@ module _ (file : Text) (st : State) (before : List Rec) (h : Sums file st before
     unfolding given orElse
     unless n f t u s g e o = subst (λ x. Outcome file before r rest (if x then s else halt st n f) (orElse (given n f (not u)) g)) (sym e) (go u o)
       where
-        go : (u : Bool) → (u ≡ true → Outcome file before r rest s g) → Outcome file before r rest (if u then s else halt st n f) (orElse (given n f (not u)) g)
+        go : (u : Bool) → (u ≡ true → Outcome file before r rest s g)
+            → Outcome file before r rest (if u then s else halt st n f) (orElse (given n f (not u)) g)
         go true o = o refl
         go false o = gave n f
 
     -- what is found in the fields stops it
-    found : (x y : Found) (s : Stepped) (g : Found) → x ≡ y → Outcome file before r rest s g → Outcome file before r rest (foundStep st x s) (orElse y g)
+    found : (x y : Found) (s : Stepped) (g : Found) → x ≡ y → Outcome file before r rest s g
+        → Outcome file before r rest (foundStep st x s) (orElse y g)
     unfolding foundStep orElse
     found x y s g e o = subst (λ z. Outcome file before r rest (foundStep st z s) (orElse y g)) (sym e) (go y)
       where
@@ -196,7 +199,8 @@ module _ (file : Text) (st : State) (before : List Rec) (h : Sums file st before
       late : Piece → Found
       late p = lateFound room before (p .body) (kindOfLine edition2025 (p .body))
 
-      go : (n : ℕ) → l .number ≡ n → Outcome file before (recOf edition2025 before (q .piece)) (q .rest) (scanStep file room st l) (orElse (scanFound (q .piece)) (late (q .piece)))
+      go : (n : ℕ) → l .number ≡ n
+          → Outcome file before (recOf edition2025 before (q .piece)) (q .rest) (scanStep file room st l) (orElse (scanFound (q .piece)) (late (q .piece)))
       go zero e =
           let w = q .whole e in
           let a = whole-outcome room (l .len) (q .rest) (w .is-rest) (w .inside) (w .short) in
@@ -222,7 +226,8 @@ many n m e = go (leb linesLimit n) refl
     go true t = sym (lt-ltb linesLimit (suc m) (omega (arith, leb-true linesLimit n t)))
     go false t = sym (le-ltb linesLimit (suc m) (omega (arith, leb-false linesLimit n t)))
 
-pub turned : (file : Text) (room : ℕ) (st : State) (before : List Rec) → Sums file st before → st .at < length file → Turned file room st before (turnOf file room st)
+pub turned : (file : Text) (room : ℕ) (st : State) (before : List Rec) → Sums file st before → st .at < length file
+    → Turned file room st before (turnOf file room st)
 unfolding turnOf lineStep
 turned file room st before h l =
     let q : Read (drop (st .at) file) (lineAt (drop (st .at) file)) = read (drop (st .at) file) (omega (arith, length-drop (st .at) file)) in

@@ -140,7 +140,8 @@ goes-on b q h = go (q .ended) (q .body) h
 
 module _ (c : Text) (n : NoLineEnd c) where
   -- two bytes and more, the first a CR or LF
-  two-bytes : (b d : ℕ) (t : Text) → (b ≡ 13) ⊎ (b ≡ 10) → Read (c ++ (b ∷ d ∷ t)) (if ltb lineLimit (length c) then bad 4 else endOf (length c) (b ∷ d ∷ t))
+  two-bytes : (b d : ℕ) (t : Text) → (b ≡ 13) ⊎ (b ≡ 10)
+      → Read (c ++ (b ∷ d ∷ t)) (if ltb lineLimit (length c) then bad 4 else endOf (length c) (b ∷ d ∷ t))
   unfolding endOf foundOf given orElse isEmpty pieces push
   two-bytes b d t h = go (eqb b CR) (eqb d LF) refl refl
     where
@@ -156,7 +157,8 @@ module _ (c : Text) (n : NoLineEnd c) where
           (starts-unclean b (o .0 .body) h .0) (starts-unclean b (o .0 .body) h .1) (λ z. omega arith)
           (rw (goes-on b (o .0) (o .3))) six
 
-      go : (x y : Bool) → eqb b CR ≡ x → eqb d LF ≡ y → Read (c ++ (b ∷ d ∷ t)) (if ltb lineLimit (length c) then bad 4 else endOf (length c) (b ∷ d ∷ t))
+      go : (x y : Bool) → eqb b CR ≡ x → eqb d LF ≡ y
+          → Read (c ++ (b ∷ d ∷ t)) (if ltb lineLimit (length c) then bad 4 else endOf (length c) (b ∷ d ∷ t))
       go true true x y = rw (eqb-true b CR x, eqb-true d LF y) (ended-at c n t)
       go true false x y = stray (rw (x, y)) (rw (eqb-true b CR x, y))
       go false y x z = stray (rw x) (rw (⊎-elim (λ e. absurd (eqb-false b CR x e)) (eq-eqb b LF) h))

@@ -99,12 +99,14 @@ pub record Located (file : Text) (st : State) (before : List Rec) (q : Place) (d
   pub stack : Stack file st before (q .up)
   pub inside : Inside file st before (q .last) (length (q .up))
 
-kind-above : (file : Text) (st : State) (before : List Rec) (os : List Open) → Stack file st before os → above (st .kinds) (length os) ≡ kindOfFirst os
+kind-above : (file : Text) (st : State) (before : List Rec) (os : List Open) → Stack file st before os
+    → above (st .kinds) (length os) ≡ kindOfFirst os
 unfolding above kindOfFirst
 kind-above file st before [] h = refl
 kind-above file st before (o ∷ os) h = h .0 .kind
 
-locate : (file : Text) (st : State) (before : List Rec) (d : ℕ) (c : Option Open) (os : List Open) (k : ℕ) → Stack file st before os → Inside file st before c (length os)
+locate : (file : Text) (st : State) (before : List Rec) (d : ℕ) (c : Option Open) (os : List Open) (k : ℕ) → Stack file st before os
+    → Inside file st before c (length os)
     → Located file st before (placeIn edition2025 d c os k) (heldIn d (st .kinds) k (length os))
 unfolding heldIn placeIn
 locate file st before d c [] k s i = record { deep = refl; stack = tt; inside = i }

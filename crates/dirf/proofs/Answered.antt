@@ -59,7 +59,8 @@ module _ (e : Edition) (sound : Sound e) where
   )
 
   -- what is named first is a breach, so its number is neither 0 nor 1
-  pub broken-breach : (room : ℕ) (before : List Rec) (p : Piece) (n f : ℕ) → FirstBroken (here e room before p) n f order → Breach (here e room before p) n f
+  pub broken-breach : (room : ℕ) (before : List Rec) (p : Piece) (n f : ℕ) → FirstBroken (here e room before p) n f order
+      → Breach (here e room before p) n f
   broken-breach room before p n f b = tests-say e sound room before p n f .1 (broken-given b)
 
   pub broken-number : (room : ℕ) (before : List Rec) (p : Piece) (n f : ℕ) → FirstBroken (here e room before p) n f order → 2 ≤ n

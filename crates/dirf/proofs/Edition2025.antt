@@ -49,7 +49,8 @@ nested-of h k e =
     }
 
 -- what holds of every pair of a table holds of a pair that is looked up
-in-table : (test : ℕ → ℕ → Bool) (t : Children) → every (λ r. every (test (r .0)) (r .1)) t ≡ true → (h k : ℕ) → isIn k (lookup [] t h) ≡ true → test h k ≡ true
+in-table : (test : ℕ → ℕ → Bool) (t : Children) → every (λ r. every (test (r .0)) (r .1)) t ≡ true → (h k : ℕ)
+    → isIn k (lookup [] t h) ≡ true → test h k ≡ true
 unfolding lookup bytes-opens
 in-table test [] e h k m = absurd (true≢false (sym m))
 in-table test (r ∷ t) e h k m =
@@ -58,7 +59,8 @@ in-table test (r ∷ t) e h k m =
     row : every (test (r .0)) (r .1) ≡ true
     row = and-left (every (test (r .0)) (r .1)) (every (λ r. every (test (r .0)) (r .1)) t) e
 
-    go : (b : Bool) → eqb h (r .0) ≡ b → (isIn k (lookup [] t h) ≡ true → test h k ≡ true) → isIn k (if b then r .1 else lookup [] t h) ≡ true → test h k ≡ true
+    go : (b : Bool) → eqb h (r .0) ≡ b → (isIn k (lookup [] t h) ≡ true → test h k ≡ true)
+        → isIn k (if b then r .1 else lookup [] t h) ≡ true → test h k ≡ true
     go true q ih m =
         ap (λ x. test x k) (eqb-true h (r .0) q)
         ∙ every-in (test (r .0)) (isIn-says k (r .1) .0 m) row

@@ -136,7 +136,8 @@ module _ {A : Type 0} where
   first-broken [] a n f e = absurd (keeps≢breaks e)
   first-broken (r ∷ rs) a n f e = go (ask r a) refl e (first-broken rs a n f)
     where
-      go : (x : Found) → ask r a ≡ x → orElse x (first rs a) ≡ breaks n f → (first rs a ≡ breaks n f → FirstBroken a n f rs) → FirstBroken a n f (r ∷ rs)
+      go : (x : Found) → ask r a ≡ x → orElse x (first rs a) ≡ breaks n f → (first rs a ≡ breaks n f → FirstBroken a n f rs)
+          → FirstBroken a n f (r ∷ rs)
       go keeps q e ih = later q (ih e)
       go (breaks m g) q e ih = at-this (q ∙ e)
 

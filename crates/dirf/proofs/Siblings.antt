@@ -114,7 +114,8 @@ siblings-placed e d k before c (o ∷ os) s =
     if-cases (λ (q : Place). Siblings before (q .last) (q .up)) (mayHold e d (o .kind) (kindOfFirst os) k) (λ _. s) (λ _. siblings-placed e d k before (some o) os (s .1))
 
 -- what opened last at a place was read before
-last-bound : (e : Edition) (d k : ℕ) {before : List Rec} {n l : ℕ} (c : Option Open) (os : List Open) → OpenRecords before n l os → n ≤ suc (length before)
+last-bound : (e : Edition) (d k : ℕ) {before : List Rec} {n l : ℕ} (c : Option Open) (os : List Open) → OpenRecords before n l os
+    → n ≤ suc (length before)
     → ((o : Open) → c ≡ some o → o .number ≤ length before) → (o : Open) → placeIn e d c os k .last ≡ some o → o .number ≤ length before
 unfolding placeIn
 last-bound e d k c [] h small bound = bound
@@ -188,6 +189,7 @@ module _ (e : Edition) (sound : Sound e) where
       let p = has-parent e before k deep′ stands in
       go (place e before k .up) (p .1) (siblings-placed e (declarant before) k before none (opened before) (siblings hist))
     where
-      go : (up : List Open) → 0 < length up → Siblings before (place e before k .last) up → lastUnder before (numberOfFirst up) k ≡ own before (place e before k .last) k
+      go : (up : List Open) → 0 < length up → Siblings before (place e before k .last) up
+          → lastUnder before (numberOfFirst up) k ≡ own before (place e before k .last) k
       go [] h s = absurd (omega arith)
       go (o ∷ up) h s = s .0 k v (has-parent e before k deep′ stands .2)

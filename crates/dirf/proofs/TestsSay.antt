@@ -318,7 +318,8 @@ module _ (h : Here) (named : Named h) where
   unfolding order
   by-field-rule x m f r s i t = (fieldByField fieldOrder (λ h. h .contents), search listed depth 40, by-field x r s m refl (i .0) (i .1) t)
 
-  by-condition-rule : (x : Condition) → x ∈ conditionOrder → h .contents .kind ≡ x .kind → x .broken (h .contents .cells) ≡ true → GivenSome 19 (x .field)
+  by-condition-rule : (x : Condition) → x ∈ conditionOrder → h .contents .kind ≡ x .kind → x .broken (h .contents .cells) ≡ true
+      → GivenSome 19 (x .field)
   unfolding order
   by-condition-rule x m e t = (conditions 19 conditionOrder (λ h. h .contents), search listed depth 40, by-condition x refl m refl e t)
 

@@ -32,7 +32,8 @@ module _ (e : Edition) (sound : Sound e) (d k : ℕ) (deep : level k ≡ 4) wher
       (λ holds. absurd (omega (arith, nests e d k sound (o .kind) (kindOfFirst outer) holds .of-beneficiary deep)))
       (λ _. none-holds (some o) h (omega arith))
 
-  first-holds : {before : List Rec} {n l : ℕ} {os : List Open} (c : Option Open) → OpenRecords before n l os → l ≤ 4 → 0 < length (placeIn e d c os k .up)
+  first-holds : {before : List Rec} {n l : ℕ} {os : List Open} (c : Option Open) → OpenRecords before n l os → l ≤ 4
+      → 0 < length (placeIn e d c os k .up)
       → placeIn e d c os k .up ≡ os
   unfolding placeIn
   first-holds c (none-open z) small = λ h. refl

@@ -54,7 +54,8 @@ line-count [] h = refl
 line-count (x ∷ []) h = absurd (false≢true (h .0))
 line-count (x ∷ y ∷ s) h = go (eqb x CR && eqb y LF) (line-count s) (line-count (y ∷ s)) h
   where
-    go : (t : Bool) → (AllEnded (pieces s) → length (pieces s) ≡ lineEnds s) → (AllEnded (pieces (y ∷ s)) → length (pieces (y ∷ s)) ≡ lineEnds (y ∷ s))
+    go : (t : Bool) → (AllEnded (pieces s) → length (pieces s) ≡ lineEnds s)
+        → (AllEnded (pieces (y ∷ s)) → length (pieces (y ∷ s)) ≡ lineEnds (y ∷ s))
         → AllEnded (if t then emptyLine ∷ pieces s else push x (pieces (y ∷ s)))
         → length (if t then emptyLine ∷ pieces s else push x (pieces (y ∷ s))) ≡ (if t then suc (lineEnds s) else lineEnds (y ∷ s))
     go true f g k = ap suc (f (k .1))

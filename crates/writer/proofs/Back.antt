@@ -52,7 +52,8 @@ careful f text before n c o =
     }
 
 -- a number written is read back by a reader that reads back what the definition writes
-number-back : (w : Written) (before : Text) {r : NumberWritten} {after : Text} → r ≡ numberWritten w → after ≡ outputAfter w before → (read : Text → Reading) (v : Reading)
+number-back : (w : Written) (before : Text) {r : NumberWritten} {after : Text} → r ≡ numberWritten w → after ≡ outputAfter w before
+    → (read : Text → Reading) (v : Reading)
     → (w .number ≡ 0 → read (w .bytes) ≡ v) → r .number ≡ 0 → read (take (r .count) after) ≡ v
 unfolding numberWritten
 number-back w before p o read v known e = rw (front w before (ap (λ r. r .count) p) o) (known (sym (ap (λ r. r .number) p) ∙ e))
