@@ -115,11 +115,7 @@ fn clean_len(s: &[u8]) -> usize
 fn tail(file: &[u8], start: usize) -> &[u8]
     ensures { λ r. ⌜ now r ≡ drop start (now (file .entry)) ⌝ }
 {
-    let n = file.len();
-    if n <= start {
-        return &file[n..n];
-    }
-    &file[start..n]
+    fields::part(file, start, file.len())
 }
 
 // What ends a line of n bytes: CR LF, or 5 or 6.
