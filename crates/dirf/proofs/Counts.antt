@@ -41,7 +41,7 @@ module _ (e : Edition) (sound : Sound e) (room : ℕ) where
       go false q (b ∷ u) w =
           absurd (right 6 0 (stray b (subst (λ l. b ∈ l) (sym (clean-unclean (p .body) ∙ ap (λ l. clean (p .body) ++ l) w)) (Memᴰ·append-right (clean (p .body)) it)) (unclean-begins (p .body) b u w)))
 
-  all-ended : (before : List Rec) (ps : List Piece) → Kept e room before ps → AllEnded ps
+  pub all-ended : (before : List Rec) (ps : List Piece) → Kept e room before ps → AllEnded ps
   all-ended before [] k = tt
   all-ended before (p ∷ ps) k = (line-ended before p (k .0), all-ended (recOf e before p ∷ before) ps (k .1))
 

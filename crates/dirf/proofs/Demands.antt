@@ -2,26 +2,31 @@
 use Rattle.dirf.specs.Edition.{Edition, edition2025}
 use Rattle.dirf.specs.Theorems.Sound.{Sound}
 use Rattle.dirf.specs.Theorems.Demands.{Demands}
+use Rattle.dirf.proofs.Columns.{columns-hold, writer-columns-hold}
 use Rattle.dirf.proofs.TestsSay.{tests-say}
 use Rattle.dirf.proofs.Answered.{answered, only, accepted-exactly}
 use Rattle.dirf.proofs.Edition2025.{sound2025}
 use Rattle.dirf.proofs.GoodSoFar.{good-so-far}
 use Rattle.dirf.proofs.Whose.{whose}
 use Rattle.dirf.proofs.Counts.{counts}
+use Rattle.dirf.proofs.Entries.{entries}
 use Rattle.dirf.proofs.WriterBack.{writer-reads-back, reader-writes-back}
 
 pub demands : (e : Edition) → Sound e → Demands e
 demands e sound =
     record {
-      accepted-exactly = accepted-exactly e sound;
-      tests-say = tests-say e sound;
       answered = answered e sound;
       only = only e sound;
+      accepted-exactly = accepted-exactly e sound;
+      tests-say = tests-say e sound;
+      columns-hold = columns-hold;
       counts = counts e sound;
       writer-reads-back = writer-reads-back e sound (tests-say e sound);
       reader-writes-back = reader-writes-back e sound (tests-say e sound);
+      writer-columns-hold = writer-columns-hold;
       good-so-far = good-so-far e sound;
       whose = whose e sound;
+      entries = entries e sound;
     }
 
 pub demands2025 : Demands edition2025

@@ -1,14 +1,16 @@
 -- The edition of 2025 is sound: computed tests over its tables, and four lines that close a file.
 use Prim.Native.Nat.{ℕ, suc, _≤_, _<_}
 use mathlib.Core.Path.{_≡_, refl, sym, ap, _∙_}
-use mathlib.Core.Bool.{Bool, true, false, _&&_, true≢false}
+use mathlib.Core.Bool.{Bool, true, false, _&&_, _||_, not, true≢false}
+use mathlib.Core.Logic.{⊎-elim}
 use mathlib.Core.List.{List, [], _∷_}
 use native.Mathlib.Omega.{arith}
 use lib.Dec.{eqb, ltb}
 use lib.ListN.{length}
-use borrow.Author.Tests.{eqb-true, ltb-true, le-ltb}
-use Rattle.dirf.specs.Bytes.{if_then_else_, bytes, every, isIn, lookup, bytes-opens}
-use Rattle.dirf.specs.Kinds.{Dirf, RESPO, DECPF, FIMDirf, kinds-opens}
+use borrow.Author.Tests.{eqb-true, eq-eqb, ltb-true, le-ltb}
+use Rattle.dirf.specs.Bytes.{bytes, every, isIn, lookup, bytes-opens}
+use Rattle.dirf.specs.Kinds.{Dirf, RESPO, DECPF, IDREC, SCP, FIMDirf, declarants, blocks, withIDREC, belowSCP, isBlock, isBeneficiary}
+use Rattle.dirf.specs.Kinds.{kinds-opens}
 use Rattle.dirf.specs.Below.{Children, underDECPF, underDECPJ, below2025}
 use Rattle.dirf.specs.Edition.{edition2025, edition-opens}
 use Rattle.dirf.specs.Lines.{lines-opens}
@@ -19,68 +21,76 @@ use Rattle.dirf.specs.Rules.{rules-opens}
 use Rattle.dirf.specs.Tree.{Rec, opening, mayStand}
 use Rattle.dirf.specs.Keys.{keys-opens}
 use Rattle.dirf.specs.Order.{line-opens}
-use Rattle.dirf.specs.Theorems.Sound.{level, Nested, Closable, Sound}
-use Rattle.dirf.proofs.Bools.{and-left, and-right}
-use Rattle.dirf.proofs.Says.{isIn-says, eqb-says}
-use Rattle.dirf.proofs.Lists.{every-in}
+use Rattle.dirf.specs.Theorems.Plain.{_∈_}
+use Rattle.dirf.specs.Theorems.Sound.{level, Nested, rising, Closable, Sound}
+use Rattle.dirf.proofs.Bools.{and-left, and-right, or-cases, if-cases}
+use Rattle.dirf.proofs.Says.{says-or, isIn-says}
+use Rattle.dirf.proofs.Lists.{listed, every-in}
 use Rattle.dirf.proofs.Tables.{rows-right, kinds-right}
 
--- what a row of a table of children keeps: deeper, and value records and beneficiaries only where they belong
-nests : ℕ → ℕ → Bool
-nests h k =
-    ltb (level h) (level k)
-    && (if eqb (level k) 4 then eqb (level h) 3 else true)
-    && (if eqb (level k) 3 then eqb (level h) 2 else true)
+-- what is asked of a record of kind k below one of kind h: where the first of a pair holds, the second does
+asks : ℕ → ℕ → List (Bool × Bool)
+asks h k =
+    (true, ltb (level h) (level k)) ∷
+    (eqb (level k) 4, eqb (level h) 3) ∷
+    (eqb (level k) 3, eqb (level h) 2) ∷
+    (eqb h SCP, isIn k belowSCP) ∷
+    (eqb k IDREC, isIn h withIDREC || isIn h declarants) ∷
+    (isBlock k, isIn h declarants) ∷
+    []
 
-asked : (a b : Bool) → (if a then b else true) ≡ true → a ≡ true → b ≡ true
-asked true b e q = e
-asked false b e q = absurd (true≢false (sym q))
+nests : ℕ → ℕ → Bool
+nests h k = every (λ q. not (q .0) || q .1) (asks h k)
+
+asked : (h k : ℕ) (a b : Bool) → (a, b) ∈ asks h k → nests h k ≡ true → a ≡ true → b ≡ true
+unfolding nests
+asked h k a b m e q =
+    ⊎-elim (λ n. absurd (true≢false (sym n ∙ ap not q))) (λ y. y) (or-cases (not a) b (every-in (λ q. not (q .0) || q .1) m e))
 
 nested-of : (h k : ℕ) → nests h k ≡ true → Nested h k
-unfolding nests
+unfolding asks isBlock
 nested-of h k e =
-    let a = ltb (level h) (level k) in
-    let b = if eqb (level k) 4 then eqb (level h) 3 else true in
-    let c = if eqb (level k) 3 then eqb (level h) 2 else true in
     record {
-      deeper = ltb-true (level h) (level k) (and-left a b (and-left (a && b) c e));
-      of-beneficiary = λ q. eqb-true (level h) 3 (asked (eqb (level k) 4) (eqb (level h) 3) (and-right a b (and-left (a && b) c e)) (eqb-says (level k) 4 .1 q));
-      of-IDREC-or-SCP = λ q. eqb-true (level h) 2 (asked (eqb (level k) 3) (eqb (level h) 2) (and-right (a && b) c e) (eqb-says (level k) 3 .1 q));
+      deeper = ltb-true (level h) (level k) (asked h k true _ (search listed depth 20) e refl);
+      of-beneficiary = λ q. eqb-true (level h) 3 (asked h k (eqb (level k) 4) _ (search listed depth 20) e (eq-eqb (level k) 4 q));
+      of-IDREC-or-SCP = λ q. eqb-true (level h) 2 (asked h k (eqb (level k) 3) _ (search listed depth 20) e (eq-eqb (level k) 3 q));
+      of-SCP = λ q. isIn-says k belowSCP .0 (asked h k (eqb h SCP) _ (search listed depth 20) e (eq-eqb h SCP q));
+      of-block-or-declarant = λ q.
+          says-or (isIn h withIDREC) (isIn h declarants) (isIn-says h withIDREC) (isIn-says h declarants) .0
+          (asked h k (eqb k IDREC) _ (search listed depth 20) e (eq-eqb k IDREC q));
+      of-declarant = λ m. isIn-says h declarants .0 (asked h k (isIn k blocks) _ (search listed depth 20) e (isIn-says k blocks .1 m));
     }
 
--- what holds of every pair of a table holds of a pair that is looked up
-in-table : (test : ℕ → ℕ → Bool) (t : Children) → every (λ r. every (test (r .0)) (r .1)) t ≡ true → (h k : ℕ)
-    → isIn k (lookup [] t h) ≡ true → test h k ≡ true
+-- what holds of every row of a table, and of no row, holds of what is looked up
+in-table : (test : ℕ → List ℕ → Bool) → ((h : ℕ) → test h [] ≡ true) → (t : Children) → every (λ r. test (r .0) (r .1)) t ≡ true
+    → (h : ℕ) → test h (lookup [] t h) ≡ true
 unfolding lookup bytes-opens
-in-table test [] e h k m = absurd (true≢false (sym m))
-in-table test (r ∷ t) e h k m =
-    go (eqb h (r .0)) refl (in-table test t (and-right (every (test (r .0)) (r .1)) (every (λ r. every (test (r .0)) (r .1)) t) e) h k) m
-  where
-    row : every (test (r .0)) (r .1) ≡ true
-    row = and-left (every (test (r .0)) (r .1)) (every (λ r. every (test (r .0)) (r .1)) t) e
+in-table test none [] e h = none h
+in-table test none (r ∷ t) e h =
+    if-cases (λ ks. test h ks ≡ true) (eqb h (r .0))
+    (λ q. ap (λ x. test x (r .1)) (eqb-true h (r .0) q) ∙ and-left (test (r .0) (r .1)) _ e)
+    (λ _. in-table test none t (and-right (test (r .0) (r .1)) _ e) h)
 
-    go : (b : Bool) → eqb h (r .0) ≡ b → (isIn k (lookup [] t h) ≡ true → test h k ≡ true)
-        → isIn k (if b then r .1 else lookup [] t h) ≡ true → test h k ≡ true
-    go true q ih m =
-        ap (λ x. test x k) (eqb-true h (r .0) q)
-        ∙ every-in (test (r .0)) (isIn-says k (r .1) .0 m) row
-    go false q ih m = ih m
-
-under-DECPF : every (λ r. every (nests (r .0)) (r .1)) underDECPF ≡ true
-unfolding bytes-opens kinds-opens nests level
-under-DECPF = refl
-
-under-DECPJ : every (λ r. every (nests (r .0)) (r .1)) underDECPJ ≡ true
-unfolding bytes-opens kinds-opens nests level
-under-DECPJ = refl
+-- of either declarant's table
+below-says : (test : ℕ → List ℕ → Bool) → ((h : ℕ) → test h [] ≡ true)
+    → every (λ r. test (r .0) (r .1)) underDECPF ≡ true → every (λ r. test (r .0) (r .1)) underDECPJ ≡ true
+    → (d h : ℕ) → test h (lookup [] (below2025 d) h) ≡ true
+unfolding below2025
+below-says test none pf pj d h =
+    if-cases (λ t. test h (lookup [] t h) ≡ true) (eqb d DECPF) (λ _. in-table test none underDECPF pf h) (λ _. in-table test none underDECPJ pj h)
 
 nested2025 : (d h k : ℕ) → isIn k (lookup [] (below2025 d) h) ≡ true → Nested h k
-unfolding below2025
-nested2025 d h k = go (eqb d DECPF)
-  where
-    go : (b : Bool) → isIn k (lookup [] (if b then underDECPF else underDECPJ) h) ≡ true → Nested h k
-    go true m = nested-of h k (in-table nests underDECPF under-DECPF h k m)
-    go false m = nested-of h k (in-table nests underDECPJ under-DECPJ h k m)
+unfolding bytes-opens kinds-opens asks nests level
+nested2025 d h k m =
+    nested-of h k (every-in (nests h) (isIn-says k (lookup [] (below2025 d) h) .0 m) (below-says (λ h ks. every (nests h) ks) (λ h. refl) refl refl d h))
+
+-- the order of kind numbers is the order of the lists, but below a beneficiary
+ordered2025 : (d h : ℕ) → isBeneficiary h ≡ false → rising (lookup [] (below2025 d) h) ≡ true
+unfolding bytes-opens kinds-opens rising
+ordered2025 d h other =
+    ⊎-elim (λ r. r) (λ b. absurd (true≢false (sym b ∙ other)))
+    (or-cases (rising (lookup [] (below2025 d) h)) (isBeneficiary h)
+    (below-says (λ h ks. rising ks || isBeneficiary h) (λ h. refl) refl refl d h))
 
 -- where each of the four lines that close a file may stand
 stands0 : (before : List Rec) → length before ≡ 0 → mayStand edition2025 before Dirf ≡ true
@@ -131,5 +141,6 @@ sound2025 =
       numbered = refl;
       identified = refl;
       nested = nested2025;
+      ordered = ordered2025;
       closable = closable2025;
     }

@@ -17,7 +17,7 @@ use Rattle.dirf.specs.Rules.{keeps, first}
 use Rattle.dirf.specs.Tree.{Rec}
 use Rattle.dirf.specs.Order.{here, order, closed, kindOfLine}
 use Rattle.dirf.specs.Check.{Verdict, recOf, refused, accepted, verdict}
-use Rattle.dirf.specs.Theorems.Plain.{NoLineEnd}
+use Rattle.dirf.specs.Theorems.Plain.{NoLineEnd, wholeLine}
 use Rattle.dirf.specs.Theorems.Breach.{stray}
 use Rattle.dirf.specs.Theorems.Sound.{Closable, Sound}
 use Rattle.dirf.specs.Theorems.Answered.{recs, Closed, Accepted, FirstBroken}
@@ -28,10 +28,6 @@ use Rattle.dirf.proofs.RunLaws.{Kept, Fate, passes, stops, fate, kept-v
 use Rattle.dirf.proofs.RunLaws.{recs-append, length-recs}
 use Rattle.dirf.proofs.WholeLaws.{pieces-append, line-count, whole-ended, line-piece}
 use Rattle.dirf.proofs.Answered.{shut-ends, open-ends, right-exactly, lines-right, broken-number, accepted-exactly}
-
--- lines that are each one whole piece
-abbrev whole : Text → Piece
-whole l = record { body = l; ended = true }
 
 -- what closes a file after some records: so many lines at the most
 record Closes (e : Edition) (room : ℕ) (before : List Rec) (most : ℕ) : Type 0 where
@@ -49,17 +45,17 @@ module _ (e : Edition) (sound : Sound e) (room : ℕ) where
   c : Closable e
   c = sound .closable
 
-  no-line-end : (before : List Rec) (line : Text) → first order (here e room before (whole line)) ≡ keeps → NoLineEnd line
+  no-line-end : (before : List Rec) (line : Text) → first order (here e room before (wholeLine line)) ≡ keeps → NoLineEnd line
   unfolding here
   no-line-end before line k b m =
-      let right = right-exactly e sound room before (whole line) .0 k in
+      let right = right-exactly e sound room before (wholeLine line) .0 k in
       (λ q. right 6 0 (stray b m (inl q)), λ q. right 6 0 (stray b m (inr q)))
 
   -- one line more in front of what closes
-  line-closes : (before : List Rec) (line : Text) (most : ℕ) → first order (here e room before (whole line)) ≡ keeps
-      → Closes e room (recOf e before (whole line) ∷ before) most → Closes e room before (suc most)
+  line-closes : (before : List Rec) (line : Text) (most : ℕ) → first order (here e room before (wholeLine line)) ≡ keeps
+      → Closes e room (recOf e before (wholeLine line) ∷ before) most → Closes e room before (suc most)
   line-closes before line most k t =
-      let cut : pieces (line ++ (13 ∷ 10 ∷ t .text)) ≡ whole line ∷ pieces (t .text) = line-piece line (t .text) (no-line-end before line k) in
+      let cut : pieces (line ++ (13 ∷ 10 ∷ t .text)) ≡ wholeLine line ∷ pieces (t .text) = line-piece line (t .text) (no-line-end before line k) in
       let w : Whole (line ++ (13 ∷ 10 ∷ t .text)) = whole-on line (t .is-whole) in
       record {
         text = line ++ (13 ∷ 10 ∷ t .text);
@@ -75,36 +71,36 @@ module _ (e : Edition) (sound : Sound e) (room : ℕ) where
   nothing-closes before q = record { text = []; is-whole = empty; few = omega arith; kept = tt; shut = q }
 
   -- a line that is not FIMDirf leaves the file open, and FIMDirf closes it
-  stays-open : (before : List Rec) (line : Text) → kindOfLine e line ≢ FIMDirf → closed (recOf e before (whole line) ∷ before) ≡ false
+  stays-open : (before : List Rec) (line : Text) → kindOfLine e line ≢ FIMDirf → closed (recOf e before (wholeLine line) ∷ before) ≡ false
   unfolding closed recOf
   stays-open before line n = ne-eqb (kindOfLine e line) FIMDirf n
 
-  is-shut : (before : List Rec) → Closed (recOf e before (whole (c .last)) ∷ before)
+  is-shut : (before : List Rec) → Closed (recOf e before (wholeLine (c .last)) ∷ before)
   unfolding recOf c
-  is-shut before = (recOf e before (whole (c .last)), before, refl, c .closes)
+  is-shut before = (recOf e before (wholeLine (c .last)), before, refl, c .closes)
 
   close3 : (before : List Rec) → 3 ≤ length before → closed before ≡ false → length before < 65536 → length before < room → Closes e room before 1
   unfolding c
   close3 before h q m r =
-      line-closes before (c .last) 0 (c .after3 before h room q m r) (nothing-closes (recOf e before (whole (c .last)) ∷ before) (is-shut before))
+      line-closes before (c .last) 0 (c .after3 before h room q m r) (nothing-closes (recOf e before (wholeLine (c .last)) ∷ before) (is-shut before))
 
   close2 : (before : List Rec) → length before ≡ 2 → closed before ≡ false → 4 ≤ room → Closes e room before 2
   unfolding c
   close2 before h q r =
       line-closes before (c .line3) 1 (c .after2 before h room q (omega arith) (omega arith))
-      (close3 (recOf e before (whole (c .line3)) ∷ before) (omega arith) (stays-open before (c .line3) (c .open3)) (omega arith) (omega arith))
+      (close3 (recOf e before (wholeLine (c .line3)) ∷ before) (omega arith) (stays-open before (c .line3) (c .open3)) (omega arith) (omega arith))
 
   close1 : (before : List Rec) → length before ≡ 1 → closed before ≡ false → 4 ≤ room → Closes e room before 3
   unfolding c
   close1 before h q r =
       line-closes before (c .line2) 2 (c .after1 before h room q (omega arith) (omega arith))
-      (close2 (recOf e before (whole (c .line2)) ∷ before) (omega arith) (stays-open before (c .line2) (c .open2)) r)
+      (close2 (recOf e before (wholeLine (c .line2)) ∷ before) (omega arith) (stays-open before (c .line2) (c .open2)) r)
 
   close0 : (before : List Rec) → length before ≡ 0 → closed before ≡ false → 4 ≤ room → Closes e room before 4
   unfolding c
   close0 before h q r =
       line-closes before (c .line1) 3 (c .after0 before h room q (omega arith) (omega arith))
-      (close1 (recOf e before (whole (c .line1)) ∷ before) (omega arith) (stays-open before (c .line1) (c .open1)) r)
+      (close1 (recOf e before (wholeLine (c .line1)) ∷ before) (omega arith) (stays-open before (c .line1) (c .open1)) r)
 
   at-most : (before : List Rec) (m : ℕ) → m ≤ 4 → Closes e room before m → Closes e room before 4
   at-most before m h t = record { text = t .text; is-whole = t .is-whole; few = omega (arith, t .few); kept = t .kept; shut = t .shut }

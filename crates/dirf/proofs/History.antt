@@ -6,7 +6,7 @@ use mathlib.Core.Bool.{Bool, true, false}
 use mathlib.Core.List.{List, [], _∷_}
 use native.Mathlib.Omega.{arith}
 use lib.Dec.{eqb, leb}
-use lib.ListN.{length, length-append, getD, List·getD-append}
+use lib.ListN.{length, length-append, List·getD-append}
 use lib.Seq.{getD-at}
 use borrow.Author.Tests.{eqb-true, eqb-false, leb-true, leb-false, not-false}
 use Rattle.dirf.specs.Bytes.{Text}
@@ -17,7 +17,7 @@ use Rattle.dirf.specs.Tree.{Rec, opening, declarant, parentOf, mayStand}
 use Rattle.dirf.specs.Order.{here, contentsOf, kindOfLine, closed, mayNotStandHere, order}
 use Rattle.dirf.specs.Check.{Entry, entryOf, tableOf, Verdict, refused, accepted, noBytesLeft, recOf, breach, afterLine}
 use Rattle.dirf.specs.Check.{run, verdict}
-use Rattle.dirf.specs.Theorems.Whose.{noEntry, kindAt}
+use Rattle.dirf.specs.Theorems.Whose.{noEntry, entryAt, kindAt}
 use Rattle.dirf.proofs.Bools.{if-cases}
 use Rattle.dirf.proofs.Lists.{listed}
 use Rattle.dirf.proofs.Asked.{rule-kept}
@@ -60,10 +60,6 @@ pub table-length : (before : List Rec) → length (tableOf before) ≡ length be
 unfolding tableOf
 table-length [] = refl
 table-length (r ∷ rs) = simp length-append (omega (arith, table-length rs))
-
--- the entry of line n
-abbrev pub entryAt : List Entry → ℕ → Entry
-entryAt t n = getD (noEntry ∷ t) n noEntry
 
 pub entry-last : (r : Rec) (rs : List Rec) → entryAt (tableOf (r ∷ rs)) (suc (length rs)) ≡ entryOf r rs
 unfolding tableOf

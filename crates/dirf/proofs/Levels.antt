@@ -1,18 +1,20 @@
 -- The level of a kind says what it is: value record, beneficiary, IDREC or SCP.
 use Prim.Native.Nat.{ℕ, _<_}
-use mathlib.Core.Path.{_≡_, refl, sym, _∙_}
+use mathlib.Core.Path.{_≡_, refl, sym, ap, _∙_}
 use mathlib.Core.Bool.{Bool, true, false, _&&_, _||_, true≢false, false≢true}
 use mathlib.Core.Logic.{_⊎_, inl, inr, ⊎-elim}
 use mathlib.Core.List.{List, [], _∷_, List·Memᴰ·cases-cons, List·Memᴰ·eq-of-singleton}
 use native.Mathlib.Omega.{arith}
-use lib.Dec.{eqb, ltb}
+use lib.Dec.{eqb, ltb, leb}
 use lib.ListN.{length}
-use borrow.Author.Tests.{eqb-true, ltb-true}
+use borrow.Author.Tests.{eqb-true, ltb-true, leb-true}
 use Rattle.dirf.specs.Bytes.{every, isIn, bytes-opens}
-use Rattle.dirf.specs.Kinds.{IDREC, FCI, PROC, RRA, SCP, beneficiaries, values, isValue, isBeneficiary, isBlock, kinds-opens}
+use Rattle.dirf.specs.Kinds.{IDREC, FCI, PROC, RRA, SCP, alone, blocks, beneficiaries, values, isValue, isBeneficiary, isBlock}
+use Rattle.dirf.specs.Kinds.{kinds-opens}
 use Rattle.dirf.specs.Keys.{keyFields, hasKey}
 use Rattle.dirf.specs.Theorems.Plain.{_∈_}
 use Rattle.dirf.specs.Theorems.Sound.{level}
+use Rattle.dirf.specs.Theorems.Whose.{BeneficiaryOrValue, Sort, a-block, an-IDREC, a-beneficiary, a-value-record}
 use Rattle.dirf.proofs.Bools.{if-cases, and-left, and-right, or-cases, unless-true}
 use Rattle.dirf.proofs.Says.{isIn-says}
 use Rattle.dirf.proofs.Lists.{every-in}
@@ -29,33 +31,63 @@ unfolding bytes-opens kinds-opens level
 beneficiary-level = level-in 3 refl
 
 level-cases : (P : ℕ → Type 0) (k : ℕ) → (isValue k ≡ true → P 4) → (isBeneficiary k ≡ true → P 3)
-    → (isIn k (IDREC ∷ SCP ∷ []) ≡ true → P 2) → ((n : ℕ) → n < 2 → P n) → P (level k)
+    → (isIn k (IDREC ∷ SCP ∷ []) ≡ true → P 2) → (isBlock k ≡ true → P 1) → P 0 → P (level k)
 unfolding level
-level-cases P k value beneficiary holder other =
+level-cases P k value beneficiary holder block other =
     if-cases P (isValue k) value (λ _.
     if-cases P (isBeneficiary k) beneficiary (λ _.
     if-cases P (isIn k (IDREC ∷ SCP ∷ [])) holder (λ _.
-    if-cases P (isBlock k) (λ _. other 1 (omega arith)) (λ _. other 0 (omega arith)))))
+    if-cases P (isBlock k) block (λ _. other))))
 
 pub opens-level : (k : ℕ) → isValue k ≡ false → level k < 4
 opens-level k opens =
     level-cases (λ l. l < 4) k (λ v. absurd (true≢false (sym v ∙ opens)))
-    (λ _. omega arith) (λ _. omega arith) (λ n l. omega arith)
+    (λ _. omega arith) (λ _. omega arith) (λ _. omega arith) (omega arith)
+
+holder-cases : (k : ℕ) → isIn k (IDREC ∷ SCP ∷ []) ≡ true → (k ≡ IDREC) ⊎ (k ≡ SCP)
+holder-cases k h = ⊎-elim inl (λ m. inr (List·Memᴰ·eq-of-singleton m)) (List·Memᴰ·cases-cons (isIn-says k (IDREC ∷ SCP ∷ []) .0 h))
 
 pub is-holder : (k : ℕ) → level k ≡ 2 → (k ≡ IDREC) ⊎ (k ≡ SCP)
 is-holder k =
     level-cases (λ l. l ≡ 2 → (k ≡ IDREC) ⊎ (k ≡ SCP)) k (λ _ l. absurd (omega arith)) (λ _ l. absurd (omega arith))
-    (λ h _. ⊎-elim inl (λ m. inr (List·Memᴰ·eq-of-singleton m)) (List·Memᴰ·cases-cons (isIn-says k (IDREC ∷ SCP ∷ []) .0 h)))
-    (λ n o l. absurd (omega arith))
+    (λ h _. holder-cases k h)
+    (λ _ l. absurd (omega arith)) (λ l. absurd (omega arith))
 
-pub below-holder : (k : ℕ) → 2 < level k → (k ∈ beneficiaries) ⊎ (k ∈ values)
+pub below-holder : (k : ℕ) → 2 < level k → BeneficiaryOrValue k
 unfolding isValue isBeneficiary
 below-holder k =
-    level-cases (λ l. 2 < l → (k ∈ beneficiaries) ⊎ (k ∈ values)) k
+    level-cases (λ l. 2 < l → BeneficiaryOrValue k) k
     (λ v _. inr (isIn-says k values .0 v))
     (λ b _. inl (isIn-says k beneficiaries .0 b))
     (λ _ l. absurd (omega arith))
-    (λ n o l. absurd (omega arith))
+    (λ _ l. absurd (omega arith))
+    (λ l. absurd (omega arith))
+
+-- each kind that stands deeper than the declarant is a block, an IDREC, a beneficiary or a value record
+pub sort-below : (k : ℕ) → 0 < level k → Sort k
+unfolding isValue isBeneficiary isBlock blocks bytes-opens
+sort-below k =
+    level-cases (λ l. 0 < l → Sort k) k
+    (λ v _. a-value-record (isIn-says k values .0 v))
+    (λ b _. a-beneficiary (isIn-says k beneficiaries .0 b))
+    (λ h _. ⊎-elim an-IDREC (λ q. a-block (isIn-says k blocks .0 (ap (λ x. isIn x blocks) q))) (holder-cases k h))
+    (λ b _. a-block (isIn-says k blocks .0 b))
+    (λ l. absurd (omega arith))
+
+pub block-level : {k : ℕ} → k ∈ blocks → 0 < level k
+unfolding bytes-opens kinds-opens level
+block-level {k} m = ltb-true 0 (level k) (every-in (λ k. ltb 0 (level k)) m refl)
+
+pub alone-level : {k : ℕ} → k ∈ alone → level k ≡ 0
+unfolding bytes-opens kinds-opens level
+alone-level = level-in 0 refl
+
+-- the only block that stands deeper than FCI, PROC and RRA is SCP
+pub deep-block : {k : ℕ} → k ∈ blocks → 1 < level k → k ≡ SCP
+unfolding bytes-opens kinds-opens level
+deep-block {k} m deep =
+    ⊎-elim (eqb-true k SCP) (λ q. absurd (omega (arith, leb-true (level k) 1 q)))
+    (or-cases (eqb k SCP) (leb (level k) 1) (every-in (λ k. eqb k SCP || leb (level k) 1) m refl))
 
 pub below-beneficiary : (k : ℕ) → 3 < level k → k ∈ values
 below-beneficiary k l = ⊎-elim (λ b. absurd (omega (arith, beneficiary-level b))) (λ v. v) (below-holder k (omega arith))

@@ -21,8 +21,11 @@ pub mod Levels
 pub mod Parents
 pub mod History
 pub mod OpenRecords
+pub mod Siblings
 pub mod Whose
+pub mod Slips
 pub mod Counts
+pub mod Entries
 pub mod KeyOrder
 pub mod Bars
 pub mod FieldPlaces
@@ -31,5 +34,4 @@ pub mod NumbersBack
 pub mod Base
 pub mod WriterBack
 pub mod Demands
-pub mod Siblings
 pub mod ValuePlace

@@ -66,7 +66,7 @@ none-under {e} sound (next {r = r} {before = before} stands parent hist) p j h =
     last-skip r before p j (λ q. omega (arith, q .0, parent)) ∙ none-under sound hist p j (omega arith)
 
 -- what was read last below an open record o, of the kinds that open: c, or what is not out of order and not there
-abbrev Kids : List Rec → Option Open → Open → Type 0
+abbrev pub Kids : List Rec → Option Open → Open → Type 0
 Kids before c o = (j : ℕ) → isValue j ≡ false → inOrder c j ≡ true → lastUnder before (o .number) j ≡ own before c j
 
 abbrev pub Siblings : List Rec → Option Open → List Open → Type 0
@@ -124,12 +124,12 @@ last-bound e d k {before} c (o ∷ os) (innermost a b known h) small bound =
     (λ _. last-bound e d k (some o) os h (omega arith) (λ x q. let w : o ≡ x = cc in omega (arith, ap (λ (y : Open). y .number) w)))
 
 -- a kind that is not out of order behind k, and is not k, is not out of order behind what came before k; and is not that either
-order-on : (c : Option Open) (k j : ℕ) → inOrder c k ≡ true → k < j → inOrder c j ≡ true
+pub order-on : (c : Option Open) (k j : ℕ) → inOrder c k ≡ true → k < j → inOrder c j ≡ true
 unfolding inOrder
 order-on none k j o h = refl
 order-on (some x) k j o h = le-leb (x .kind) j (omega (arith, leb-true (x .kind) k o))
 
-own-none : (before : List Rec) (c : Option Open) (k j : ℕ) → inOrder c k ≡ true → k < j → own before c j ≡ none
+pub own-none : (before : List Rec) (c : Option Open) (k j : ℕ) → inOrder c k ≡ true → k < j → own before c j ≡ none
 unfolding inOrder own
 own-none before none k j o h = refl
 own-none before (some x) k j o h = rw (ne-eqb (x .kind) j (λ e. omega (arith, leb-true (x .kind) k o)))
@@ -181,13 +181,16 @@ module _ (e : Edition) (sound : Sound e) where
             (siblings-placed e (declarant before) k before none (opened before) (siblings hist)),
       ))
 
+  -- and so at the place of any kind
+  pub siblings-at : {before : List Rec} → History e before → (k : ℕ) → Siblings before (place e before k .last) (place e before k .up)
+  unfolding place
+  siblings-at {before} hist k = siblings-placed e (declarant before) k before none (opened before) (siblings hist)
+
   -- the one before it of the same kind under the same parent
   pub one-before : {before : List Rec} → History e before → (k : ℕ) → isValue k ≡ false → mayStand e before k ≡ true → 0 < level k
       → lastUnder before (parentOf e before k) k ≡ own before (place e before k .last) k
-  unfolding parentOf numberOfFirst place
-  one-before {before} hist k v stands deep′ =
-      let p = has-parent e before k deep′ stands in
-      go (place e before k .up) (p .1) (siblings-placed e (declarant before) k before none (opened before) (siblings hist))
+  unfolding parentOf numberOfFirst
+  one-before {before} hist k v stands deep′ = go (place e before k .up) (has-parent e before k deep′ stands .1) (siblings-at hist k)
     where
       go : (up : List Open) → 0 < length up → Siblings before (place e before k .last) up
           → lastUnder before (numberOfFirst up) k ≡ own before (place e before k .last) k

@@ -1,107 +1,396 @@
 -- Whose is it? Proved of the table of every history, and so of every answer's.
-use Prim.Native.Nat.{ℕ, suc, _≤_, _<_}
-use mathlib.Core.Path.{_≡_, refl, sym, ap, ap₂, _∙_}
-use mathlib.Core.Bool.{true}
+use Prim.Native.Nat.{ℕ, zero, suc, _≤_, _<_}
+use mathlib.Core.Path.{_≡_, refl, sym, ap, ap₂, _∙_, subst}
+use mathlib.Core.Bool.{Bool, true, false, not, true≢false}
+use mathlib.Core.Logic.{_⊎_, inl, inr, ⊎-elim}
 use mathlib.Core.List.{List, [], _∷_}
+use mathlib.Core.Option.{Option, none, some}
 use native.Mathlib.Omega.{arith}
-use lib.ListN.{length}
-use borrow.Author.Tests.{eqb-true, eq-eqb}
-use Rattle.dirf.specs.Bytes.{isIn, lookup}
-use Rattle.dirf.specs.Kinds.{IDREC}
+use lib.Dec.{eqb, ltb, leb}
+use lib.ListN.{length, getD}
+use borrow.Author.Tests.{eqb-true, eq-eqb, ltb-true, ltb-false, le-leb, not-true}
+use Rattle.dirf.specs.Bytes.{every, isIn, lookup, bytes-opens}
+use Rattle.dirf.specs.Kinds.{Dirf, RESPO, IDREC, SCP, FIMDirf, declarants, alone, blocks, withIDREC, isValue, kinds-opens}
 use Rattle.dirf.specs.Edition.{Edition}
-use Rattle.dirf.specs.Tree.{Rec, Open, declarant, blockOf, mayHold, kindOfFirst, numberOfFirst, parentOf}
+use Rattle.dirf.specs.Tree.{Rec, Open, opening, declarant, blockOf, mayHold, kindOfFirst, numberOfFirst, place, parentOf, inOrder}
+use Rattle.dirf.specs.Tree.{isPlaced, mayStand, opened}
+use Rattle.dirf.specs.Keys.{lastUnder, isSome}
 use Rattle.dirf.specs.Check.{Entry, entryOf, tableOf}
+use Rattle.dirf.specs.Theorems.Plain.{_∈_}
 use Rattle.dirf.specs.Theorems.Sound.{level, Nested, Sound}
-use Rattle.dirf.specs.Theorems.Whose.{kindAt, parentAt, Owned, Whose}
-use Rattle.dirf.proofs.Bools.{and-right}
-use Rattle.dirf.proofs.Levels.{value-level, beneficiary-level, is-holder, is-beneficiary, below-holder}
-use Rattle.dirf.proofs.Levels.{below-beneficiary}
+use Rattle.dirf.specs.Theorems.Whose.{entryAt, kindAt, parentAt, IsLine, BeneficiaryOrValue, IsOf, Sort, stands-alone, a-block, an-IDREC}
+use Rattle.dirf.specs.Theorems.Whose.{a-beneficiary, a-value-record, Owned, Whose}
+use Rattle.dirf.proofs.Bools.{and-left, and-right, or-cases, if-cases}
+use Rattle.dirf.proofs.Says.{isIn-says, it, on}
+use Rattle.dirf.proofs.Lists.{every-in, every-at}
+use Rattle.dirf.proofs.LookBack.{Under, repeated-says}
+use Rattle.dirf.proofs.Levels.{value-level, beneficiary-level, block-level, alone-level, is-holder, is-beneficiary, below-holder}
+use Rattle.dirf.proofs.Levels.{below-beneficiary, sort-below, deep-block, level-in}
 use Rattle.dirf.proofs.Parents.{has-parent}
-use Rattle.dirf.proofs.History.{History, start, next, answer-table, table-length, entryAt, entry-last, entry-earlier}
+use Rattle.dirf.proofs.History.{History, start, next, answer-table, table-length, entry-last, entry-earlier}
 use Rattle.dirf.proofs.History.{line-cases, declarant-line}
-use Rattle.dirf.proofs.OpenRecords.{OpenRecords, none-open, innermost, first-number, first-kind, Holder, nests, placed}
+use Rattle.dirf.proofs.OpenRecords.{Known, OpenRecords, innermost, first-number, first-kind, Holder, nests, placed}
+use Rattle.dirf.proofs.Siblings.{Kids, Siblings, siblings-at, order-on, own, own-none}
 
 own-block : (e : Edition) (d h u k : ℕ) → mayHold e d h u k ≡ true → h ≡ IDREC → u ≡ blockOf d k
 unfolding mayHold
 own-block e d h u k holds i =
     sym (eqb-true (blockOf d k) u (rw (eq-eqb h IDREC i) at (and-right (isIn k (lookup [] (e .below d) h)) _ holds)))
 
--- Line n stands below line p: every line between them is deeper than p, and if p is an IDREC, it is of n's own block.
-record Below (t : List Entry) (n p : ℕ) : Type 0 where
-  above : (1 ≤ p) × (p < n)
-  nested : Nested (kindAt t p) (kindAt t n)
-  between : (m : ℕ) → p < m → m < n → level (kindAt t p) < level (kindAt t m)
-  block : kindAt t p ≡ IDREC → kindAt t (parentAt t p) ≡ blockOf (kindAt t 3) (kindAt t n)
+-- the record of a line of a table is one of those read
+read-of : (before : List Rec) (m : ℕ) → m ≤ length before → 1 ≤ m
+    → (r : Rec) × (r ∈ before) × Under (parentAt (tableOf before) m) (kindAt (tableOf before) m) r
+unfolding entryOf
+read-of [] m = λ h a. absurd (omega arith)
+read-of (r ∷ rs) m =
+    line-cases (λ m. 1 ≤ m → (x : Rec) × (x ∈ (r ∷ rs)) × Under (parentAt (tableOf (r ∷ rs)) m) (kindAt (tableOf (r ∷ rs)) m) x) (length rs) m
+    (λ h a.
+    let x = read-of rs m h a in
+    let same = entry-earlier r rs m h in
+    (x .0, on (x .1), (x .2 .0 ∙ sym (ap (λ y. y .parent) same), x .2 .1 ∙ sym (ap (λ y. y .kind) same))))
+    (λ _. (r, it, (sym (ap (λ y. y .parent) (entry-last r rs)), sym (ap (λ y. y .kind) (entry-last r rs)))))
+
+-- a record that was read is found by looking back
+clash : (before : List Rec) (p j : ℕ) → (r : Rec) × (r ∈ before) × Under p j r → lastUnder before p j ≡ none → ⊥
+unfolding isSome
+clash before p j r q = true≢false (sym (repeated-says before p j .1 r) ∙ ap isSome q)
+
+-- what the kind of a block says of it
+opens-later : {j : ℕ} → j ∈ blocks → (isValue j ≡ false) × (IDREC < j)
+unfolding bytes-opens kinds-opens
+opens-later {j} m = (not-true (isValue j) (every-in (λ k. not (isValue k)) m refl), ltb-true IDREC j (every-in (λ k. ltb IDREC k) m refl))
+
+with-IDREC : {k : ℕ} → k ∈ withIDREC → (k ∈ blocks) × (level k ≡ 1) × (k < SCP)
+unfolding bytes-opens kinds-opens level
+with-IDREC {k} m = (
+  isIn-says k blocks .0 (every-in (λ k. isIn k blocks) m refl),
+  level-in 1 refl m,
+  ltb-true k SCP (every-in (λ k. ltb k SCP) m refl),
+)
+
+idrec-deep : {k : ℕ} → k ≡ IDREC → 0 < level k
+unfolding bytes-opens kinds-opens level
+idrec-deep {k} q = subst (λ k. 0 < level k) (sym q) (omega arith)
 
 module _ (e : Edition) (sound : Sound e) where
-  module _ (t : List Entry) where
-    -- the table begins with the entries of these records
-    abbrev Begins : List Rec → Type 0
-    Begins before = (m : ℕ) → m ≤ length before → entryAt t m ≡ entryAt (tableOf before) m
+  -- nothing holds a record that stands alone
+  unheld : {before : List Rec} → History e before → (k : ℕ) → level k ≡ 0 → place e before k .up ≡ []
+  unheld {before} h k flat = go (place e before k .up) (placed e sound h k .holder)
+    where
+      go : (up : List Open) → Holder e (declarant before) k up → up ≡ []
+      go [] holds = refl
+      go (o ∷ outer) holds = absurd (omega (arith, nests e (declarant before) k sound (o .kind) (kindOfFirst outer) holds .deeper))
 
-    last-below : (r : Rec) {before : List Rec} {l : ℕ} {up : List Open} → Begins (r ∷ before) → 3 ≤ length before
-        → OpenRecords before (suc (length before)) l up → Holder e (declarant before) (r .kind) up → 0 < length up
-        → r .parent ≡ numberOfFirst up → Below t (suc (length before)) (parentAt t (suc (length before)))
-    unfolding numberOfFirst entryOf
-    last-below r same after (none-open z) holds some parent = absurd (omega arith)
-    last-below r {before} same after (innermost {o = o} {outer = outer} a b known h) holds some parent =
-        let n : ℕ = suc (length before) in
-        let last : entryAt t n ≡ entryOf r before = same n (omega arith) ∙ entry-last r before in
-        let entry : Begins before = λ m x. same m (omega arith) ∙ entry-earlier r before m x in
-        let p : parentAt t n ≡ o .number = ap (λ x. x .parent) last ∙ parent in
-        let kind : kindAt t (o .number) ≡ o .kind = ap (λ x. x .kind) (entry (o .number) (omega arith)) ∙ known .kind in
-        rw p
-        (record {
-          above = (omega (arith, first-number h), a);
-          nested = rw (kind, last, kindAt) (nests e (declarant before) (r .kind) sound (o .kind) (kindOfFirst outer) holds);
-          between = λ m x y. rw (kind, entry m (omega arith), kindAt) (known .since m x (omega arith));
-          block = λ i.
-              ap (kindAt t) (ap (λ x. x .parent) (entry (o .number) (omega arith)) ∙ known .parent)
-              ∙ ap (λ x. x .kind) (entry (numberOfFirst outer) (omega (arith, first-number h))) ∙ first-kind h
-              ∙ own-block e (declarant before) (o .kind) (kindOfFirst outer) (r .kind) holds (sym kind ∙ i)
-              ∙ sym (ap₂ blockOf (ap (λ x. x .kind) (entry 3 after) ∙ declarant-line before after) (ap (λ x. x .kind) last));
+  -- a record that stands alone is one of the opening lines, or FIMDirf
+  stands-opening : {before : List Rec} → History e before → (k : ℕ) → level k ≡ 0 → mayStand e before k ≡ true
+      → ((length before < 3) × (isIn k (getD opening (length before) []) ≡ true)) ⊎ (k ≡ FIMDirf)
+  unfolding opening mayStand isPlaced
+  stands-opening {before} h k flat =
+      if-cases (λ t. t ≡ true → ((length before < 3) × (isIn k (getD opening (length before) []) ≡ true)) ⊎ (k ≡ FIMDirf)) (ltb (length before) 3)
+      (λ few i. inl (ltb-true (length before) 3 few, i))
+      (λ _ i.
+      ⊎-elim (λ f. inr (eqb-true k FIMDirf f))
+      (λ p. absurd (omega (arith, ap length (unheld h k flat), ltb-true 0 (length (place e before k .up)) (and-left _ (inOrder (place e before k .last) k) p))))
+      (or-cases (eqb k FIMDirf) (isPlaced (place e before k) k) i))
+
+  -- the declarant is read as line 3
+  stands-third : {before : List Rec} → History e before → (k : ℕ) → k ∈ declarants → mayStand e before k ≡ true → length before ≡ 2
+  unfolding opening bytes-opens kinds-opens level
+  stands-third {before} h k m stands =
+      ⊎-elim (λ o. go (length before) refl (o .0) (o .1)) (λ f. absurd (no (λ k. eqb k FIMDirf) refl (eq-eqb k FIMDirf f)))
+      (stands-opening h k (level-in 0 refl m) stands)
+    where
+      no : (test : ℕ → Bool) → every (λ k. not (test k)) declarants ≡ true → test k ≡ true → ⊥
+      no test all q = true≢false (sym q ∙ not-true (test k) (every-in (λ k. not (test k)) m all))
+
+      go : (n : ℕ) → length before ≡ n → n < 3 → isIn k (getD opening n []) ≡ true → length before ≡ 2
+      go zero q few i = absurd (no (λ k. isIn k (Dirf ∷ [])) refl i)
+      go (suc zero) q few i = absurd (no (λ k. isIn k (RESPO ∷ [])) refl i)
+      go (suc (suc zero)) q few i = q
+      go (suc (suc (suc n))) q few i = absurd (omega arith)
+
+  -- the table t has a line for each record of a history
+  module _ {all : List Rec} (h : History e all) where
+    abbrev t : List Entry
+    t = tableOf all
+
+    -- line n was read after some records: it may stand there, and the table begins with their entries
+    record Read (n : ℕ) : Type 0 where
+      before : List Rec
+      this : Rec
+      number : n ≡ suc (length before)
+      history : History e before
+      stands : mayStand e before (this .kind) ≡ true
+      parent : this .parent ≡ parentOf e before (this .kind)
+      earlier : (m : ℕ) → m ≤ length before → entryAt t m ≡ entryAt (tableOf before) m
+      entry : entryAt t n ≡ entryOf this before
+
+    read : {before : List Rec} → History e before → ((m : ℕ) → m ≤ length before → entryAt t m ≡ entryAt (tableOf before) m)
+        → (n : ℕ) → n ≤ length before → 1 ≤ n → Read n
+    read start same n = λ b a. absurd (omega arith)
+    read (next {r = r} {before = before} stands parent hist) same n =
+        let same′ : (m : ℕ) → m ≤ length before → entryAt t m ≡ entryAt (tableOf before) m = λ m x. same m (omega arith) ∙ entry-earlier r before m x in
+        line-cases (λ n. 1 ≤ n → Read n) (length before) n (read hist same′ n)
+        (λ _.
+        record {
+          before = before;
+          this = r;
+          number = refl;
+          history = hist;
+          stands = stands;
+          parent = parent;
+          earlier = same′;
+          entry = same (suc (length before)) (omega arith) ∙ entry-last r before;
         })
 
-    all-below : {before : List Rec} → History e before → Begins before → (n : ℕ) → n ≤ length before → 1 ≤ n
-        → 0 < level (kindAt t n) → Below t n (parentAt t n)
-    unfolding parentOf entryOf
-    all-below start same n = λ b a deep. absurd (omega arith)
-    all-below (next {r = r} {before = before} stands parent h) same n =
-        line-cases (λ n. 1 ≤ n → 0 < level (kindAt t n) → Below t n (parentAt t n)) (length before) n
-        (all-below h (λ m x. same m (omega arith) ∙ entry-earlier r before m x) n)
-        (λ _ deep.
-        let kind = ap (λ x. x .kind) (same (suc (length before)) (omega arith) ∙ entry-last r before) in
-        let up = has-parent e before (r .kind) (rw kind at deep) stands in
-        let q = placed e sound h (r .kind) in
-        last-below r same (up .0) (q .known) (q .holder) (up .1) parent)
+    line : (n : ℕ) → IsLine t n → Read n
+    line n l = read h (λ m x. refl) n (omega (arith, table-length all, l .1)) (l .0)
+
+    -- what holds line n: the innermost of the open records that may, o; and what was read last below it, if that is open
+    record Held (n : ℕ) : Type 0 where
+      read : Read n
+      o : Open
+      outer : List Open
+      last : Option Open
+      parent : parentAt t n ≡ o .number
+      above : o .number < n
+      after : 3 ≤ length (read .before)
+      known : Known (read .before) o outer
+      rest : OpenRecords (read .before) (o .number) (level (o .kind)) outer
+      holds : mayHold e (declarant (read .before)) (o .kind) (kindOfFirst outer) (read .this .kind) ≡ true
+      siblings : Siblings (read .before) last (o ∷ outer)
+      ordered : inOrder last (read .this .kind) ≡ true
+
+    held : (n : ℕ) → IsLine t n → 0 < level (kindAt t n) → Held n
+    unfolding entryOf parentOf numberOfFirst
+    held n l deep =
+        let up = has-parent e before k (rw (x .entry, kindAt) at deep) (x .stands) in
+        let q = placed e sound (x .history) k in
+        go (place e before k .up) refl (q .known) (q .holder) (siblings-at e sound (x .history) k) up
+      where
+        x : Read n
+        x = line n l
+
+        before : List Rec
+        before = x .before
+
+        k : ℕ
+        k = x .this .kind
+
+        c : Option Open
+        c = place e before k .last
+
+        go : (up : List Open) → place e before k .up ≡ up → OpenRecords before (suc (length before)) (level k) up
+            → Holder e (declarant before) k up → Siblings before c up → (3 ≤ length before) × (0 < length up) × (inOrder c k ≡ true) → Held n
+        go [] u known holds siblings h = absurd (omega (arith, h .1))
+        go (o ∷ outer) u (innermost a b known rest) holds siblings h =
+            record {
+              read = x;
+              o = o;
+              outer = outer;
+              last = c;
+              parent = ap (λ y. y .parent) (x .entry) ∙ x .parent ∙ ap numberOfFirst u;
+              above = omega (arith, x .number);
+              after = h .0;
+              known = known;
+              rest = rest;
+              holds = holds;
+              siblings = siblings;
+              ordered = h .2;
+            }
+
+    -- Line n stands below line p: every line between them is deeper than p, and if p is an IDREC, it is of n's own block.
+    record Below (n p : ℕ) : Type 0 where
+      above : (1 ≤ p) × (p < n)
+      nested : Nested (kindAt t p) (kindAt t n)
+      between : (m : ℕ) → p < m → m < n → level (kindAt t p) < level (kindAt t m)
+      own : kindAt t p ≡ IDREC → kindAt t (parentAt t p) ≡ blockOf (kindAt t 3) (kindAt t n)
+
+    below : (n : ℕ) → IsLine t n → 0 < level (kindAt t n) → Below n (parentAt t n)
+    unfolding entryOf
+    below n l deep =
+        let y = held n l deep in
+        let x = y .read in
+        let o = y .o in
+        let d = declarant (x .before) in
+        let k = x .this .kind in
+        let kind = ap (λ z. z .kind) (x .entry) in
+        let first = x .earlier (o .number) (omega (arith, x .number, y .above)) in
+        let kind′ : kindAt t (o .number) ≡ o .kind = ap (λ z. z .kind) first ∙ y .known .kind in
+        rw (y .parent)
+        (record {
+          above = (omega (arith, first-number (y .rest)), y .above);
+          nested = rw (kind′, kind) (nests e d k sound (o .kind) (kindOfFirst (y .outer)) (y .holds));
+          between = λ m v w. rw (kind′, x .earlier m (omega (arith, x .number)), kindAt) (y .known .since m v (omega (arith, x .number)));
+          own = λ i.
+              ap (kindAt t) (ap (λ z. z .parent) first ∙ y .known .parent)
+              ∙ ap (λ z. z .kind) (x .earlier (numberOfFirst (y .outer)) (omega (arith, first-number (y .rest), x .number, y .above)))
+              ∙ first-kind (y .rest)
+              ∙ own-block e d (o .kind) (kindOfFirst (y .outer)) k (y .holds) (sym kind′ ∙ i)
+              ∙ sym (ap₂ blockOf (ap (λ z. z .kind) (x .earlier 3 (y .after)) ∙ declarant-line (x .before) (y .after)) kind);
+        })
+
+    above-is-line : {n p : ℕ} → IsLine t n → (1 ≤ p) × (p < n) → IsLine t p
+    above-is-line l a = (a .0, omega (arith, a .1, l .1))
+
+    -- a declarant is line 3
+    third : (n : ℕ) → IsLine t n → kindAt t n ∈ declarants → n ≡ 3
+    unfolding entryOf
+    third n l m =
+        let x = line n l in
+        let kind = ap (λ y. y .kind) (x .entry) in
+        x .number ∙ ap suc (stands-third (x .history) (x .this .kind) (subst (λ k. k ∈ declarants) kind m) (x .stands))
+
+    -- a block belongs to it
+    block-third : (n : ℕ) → IsLine t n → kindAt t n ∈ blocks → (3 < n) × (parentAt t n ≡ 3)
+    block-third n l m =
+        let s = below n l (block-level m) in
+        let q = third (parentAt t n) (above-is-line l (s .above)) (s .nested .of-declarant m) in
+        (omega (arith, q, s .above .1), q)
+
+    -- the parent of an IDREC: a block that takes one, or line 3
+    idrec-holder : (n : ℕ) → IsLine t n → kindAt t n ≡ IDREC → (kindAt t (parentAt t n) ∈ withIDREC) ⊎ (parentAt t n ≡ 3)
+    idrec-holder n l i =
+        let s = below n l (idrec-deep i) in
+        ⊎-elim inl (λ m. inr (third (parentAt t n) (above-is-line l (s .above)) m)) (s .nested .of-block-or-declarant i)
+
+    -- and no block stands between: its order among the declarant's records would be broken
+    no-block : (n : ℕ) → IsLine t n → kindAt t n ≡ IDREC → (m : ℕ) → parentAt t n < m → m < n → kindAt t m ∈ blocks → ⊥
+    unfolding entryOf numberOfFirst inOrder
+    no-block n l i m over under block = ⊎-elim inside (λ q. read-later (y .last) (y .o) k (y .siblings .0) (sym (y .parent) ∙ q) (y .ordered) later) (idrec-holder n l i)
+      where
+        y : Held n
+        y = held n l (idrec-deep i)
+
+        x : Read n
+        x = y .read
+
+        before : List Rec
+        before = x .before
+
+        s : Below n (parentAt t n)
+        s = below n l (idrec-deep i)
+
+        k : ℕ
+        k = x .this .kind
+
+        j : ℕ
+        j = kindAt t m
+
+        later : k < j
+        later = omega (arith, ap (λ z. z .kind) (x .entry), i, opens-later block .1)
+
+        -- below the declarant nothing of a later kind was read than what is in order there, and so not this block
+        read-later : (c : Option Open) (o : Open) (k : ℕ) → Kids before c o → o .number ≡ 3 → inOrder c k ≡ true → k < j → ⊥
+        read-later c o k kids q ordered later =
+            let small : m ≤ length before = omega (arith, x .number) in
+            let is : IsLine t m = (omega (arith, s .above .0), omega (arith, l .1)) in
+            let r = read-of before m small (is .0) in
+            let same = x .earlier m small in
+            let parent = r .2 .0 ∙ sym (ap (λ z. z .parent) same) ∙ block-third m is block .1 in
+            clash before 3 j (r .0, r .1, (parent, r .2 .1 ∙ sym (ap (λ z. z .kind) same)))
+            (ap (λ p. lastUnder before p j) (sym q) ∙ kids j (opens-later block .0) (order-on c k j ordered later)
+            ∙ own-none before c k j ordered later)
+
+        -- inside a block that takes an IDREC: one that came after that block would have closed it
+        inside : kindAt t (parentAt t n) ∈ withIDREC → ⊥
+        inside w =
+            let o = y .o in
+            let first = x .earlier (o .number) (omega (arith, x .number, y .above)) in
+            let w′ = with-IDREC w in
+            let kind′ : kindAt t (parentAt t n) ≡ o .kind = ap (kindAt t) (y .parent) ∙ ap (λ z. z .kind) first ∙ y .known .kind in
+            let scp : j ≡ SCP = deep-block block (omega (arith, s .between m over under, w′ .1)) in
+            let outer-is : numberOfFirst (y .outer) ≡ 3 =
+            sym (y .known .parent) ∙ sym (ap (λ z. z .parent) first) ∙ ap (parentAt t) (sym (y .parent))
+            ∙ block-third (parentAt t n) (above-is-line l (s .above)) (w′ .0) .1 in
+            go (y .outer) (y .siblings .1) outer-is (omega (arith, w′ .2, kind′, scp))
+          where
+            go : (outer : List Open) → Siblings before (some (y .o)) outer → numberOfFirst outer ≡ 3 → y .o .kind < j → ⊥
+            go [] siblings q later = omega arith
+            go (d ∷ ds) siblings q later =
+                read-later (some (y .o)) d (y .o .kind) (siblings .0) q (le-leb (y .o .kind) (y .o .kind) (omega arith)) later
+
+    -- each line is of a sort
+    sorted : (n : ℕ) → IsLine t n → Sort (kindAt t n)
+    unfolding entryOf opening bytes-opens
+    sorted n l = rw (x .entry, kindAt) (go (ltb 0 (level k)) refl)
+      where
+        x : Read n
+        x = line n l
+
+        k : ℕ
+        k = x .this .kind
+
+        opens : isIn k (getD opening (length (x .before)) []) ≡ true → isIn k alone ≡ true
+        opens i =
+            every-in (λ k. isIn k alone) (isIn-says k (getD opening (length (x .before)) []) .0 i)
+            (every-at (every (λ k. isIn k alone)) opening (length (x .before)) [] refl refl)
+
+        go : (b : Bool) → ltb 0 (level k) ≡ b → Sort k
+        go true q = sort-below k (ltb-true 0 (level k) q)
+        go false q =
+            stands-alone (isIn-says k alone .0
+            (⊎-elim (λ o. opens (o .1)) (ap (λ k. isIn k alone)) (stands-opening (x .history) k (omega (arith, ltb-false 0 (level k) q)) (x .stands))))
+
+    -- what stands alone is nobody's
+    nobodys : (n : ℕ) → IsLine t n → kindAt t n ∈ alone → parentAt t n ≡ 0
+    unfolding entryOf parentOf numberOfFirst
+    nobodys n l m =
+        let x = line n l in
+        let flat : level (x .this .kind) ≡ 0 = ap level (sym (ap (λ y. y .kind) (x .entry))) ∙ alone-level m in
+        ap (λ y. y .parent) (x .entry) ∙ x .parent ∙ ap numberOfFirst (unheld (x .history) (x .this .kind) flat)
+
+    line-3 : 3 ≤ length t → kindAt t 3 ∈ declarants
+    unfolding entryOf opening mayStand
+    line-3 few =
+        let x = line 3 (omega arith, few) in
+        let two : length (x .before) ≡ 2 = omega (arith, x .number) in
+        rw (x .entry, kindAt) (isIn-says (x .this .kind) declarants .0 (rw two at (x .stands)))
+
+    idrec-of : (n : ℕ) → IsLine t n → kindAt t n ≡ IDREC → IsOf t n (parentAt t n)
+    idrec-of n l i =
+        let s = below n l (idrec-deep i) in
+        record {
+          above = s .above;
+          holder = idrec-holder n l i;
+          between = λ m x y. go m (s .between m x y) (no-block n l i m x y) (sort-below (kindAt t m) (omega (arith, s .between m x y)));
+        }
+      where
+        go : (m : ℕ) → level (kindAt t (parentAt t n)) < level (kindAt t m) → (kindAt t m ∈ blocks → ⊥) → Sort (kindAt t m)
+            → (kindAt t m ≡ IDREC) ⊎ BeneficiaryOrValue (kindAt t m)
+        go m deep not (stands-alone a) = absurd (omega (arith, alone-level a))
+        go m deep not (a-block b) = absurd (not b)
+        go m deep not (an-IDREC q) = inl q
+        go m deep not (a-beneficiary b) = inr (inl b)
+        go m deep not (a-value-record v) = inr (inr v)
 
   owned : (before : List Rec) → History e before → Owned (tableOf before)
   owned before h =
       record {
-        value = λ n a b v.
-            let s = line n a b (omega (arith, value-level v)) in
-            let under : level (kindAt t (parentAt t n)) ≡ 3 = s .nested .of-beneficiary (value-level v) in
+        sort = sorted h;
+        declarant = line-3 h;
+        one-declarant = third h;
+        nobodys = nobodys h;
+        block = block-third h;
+        idrec = idrec-of h;
+        beneficiary = λ n l v.
+            let s = below h n l (omega (arith, beneficiary-level v)) in
+            record {
+              above = s .above;
+              holder = is-holder _ (s .nested .of-IDREC-or-SCP (beneficiary-level v));
+              between = λ m x y. below-holder _ (omega (arith, s .between m x y, s .nested .of-IDREC-or-SCP (beneficiary-level v)));
+              own-block = s .own;
+              own-SCP = s .nested .of-SCP;
+            };
+        value = λ n l v.
+            let s = below h n l (omega (arith, value-level v)) in
+            let under = s .nested .of-beneficiary (value-level v) in
             record {
               above = s .above;
               person = is-beneficiary _ under;
               between = λ m x y. below-beneficiary _ (omega (arith, s .between m x y));
             };
-        beneficiary = λ n a b v.
-            let s = line n a b (omega (arith, beneficiary-level v)) in
-            let under : level (kindAt t (parentAt t n)) ≡ 2 = s .nested .of-IDREC-or-SCP (beneficiary-level v) in
-            record {
-              above = s .above;
-              holder = is-holder _ under;
-              between = λ m x y. below-holder _ (omega (arith, s .between m x y));
-              block = s .block;
-            };
       }
-    where
-      t : List Entry
-      t = tableOf before
-
-      line : (n : ℕ) → 1 ≤ n → n ≤ length t → 0 < level (kindAt t n) → Below t n (parentAt t n)
-      line n a b deep = all-below t h (λ m x. refl) n (omega (arith, table-length before)) a deep
 
 pub whose : (e : Edition) → Sound e → Whose e
 whose e sound file room = answer-table e Owned (owned e sound) room file

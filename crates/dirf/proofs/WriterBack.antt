@@ -26,10 +26,10 @@ use Rattle.dirf.specs.Written.{writes}
 use Rattle.dirf.specs.Tables.{longest}
 use Rattle.dirf.specs.LineWriter.{cut, sum, joined, lineOf, Writing, writing, noBaseKind, lengthsDoNotAddUp}
 use Rattle.dirf.specs.LineWriter.{outputTooSmall, writerOrder, writeLine}
-use Rattle.dirf.specs.Theorems.Plain.{_∈_, NoLineEnd}
+use Rattle.dirf.specs.Theorems.Plain.{_∈_, NoLineEnd, wholeLine}
 use Rattle.dirf.specs.Theorems.Sound.{firstOf, Sound}
 use Rattle.dirf.specs.Theorems.Answered.{TestsSay}
-use Rattle.dirf.specs.Theorems.ThereAndBack.{ofTheLine, Sound-line, wholeLine, ReadsBack, WriterReadsBack}
+use Rattle.dirf.specs.Theorems.ThereAndBack.{ofTheLine, Sound-line, ReadsBack, WriterReadsBack}
 use Rattle.dirf.specs.Theorems.ThereAndBack.{together, ReaderWritesBack}
 use Rattle.dirf.proofs.Says.{isIn-says}
 use Rattle.dirf.proofs.Lists.{listed, Each, none, _also_, of-each}

@@ -314,9 +314,24 @@ later =
     INF ∷
     []
 
+-- 01, "The tree": "one of DECPF or DECPJ"
+abbrev pub declarants : List ℕ
+declarants = DECPF ∷ DECPJ ∷ []
+
+-- 01, "Lines and limits": "The parent of Dirf, RESPO, the declarant and FIMDirf is 0."
+abbrev pub alone : List ℕ
+alone = Dirf ∷ RESPO ∷ DECPF ∷ DECPJ ∷ FIMDirf ∷ []
+
 -- 01, "The tree": "FCI, PROC, RRA, SCP", the blocks that open below the declarant beside IDREC
 unfoldable pub blocks : List ℕ
 blocks = FCI ∷ PROC ∷ RRA ∷ SCP ∷ []
+
+-- 01, "The tree": "IDREC belongs to the open FCI, PROC or RRA"; "Below SCP: BPFSCP then BPJSCP, no IDREC"
+abbrev pub withIDREC : List ℕ
+withIDREC = FCI ∷ PROC ∷ RRA ∷ []
+
+abbrev pub belowSCP : List ℕ
+belowSCP = BPFSCP ∷ BPJSCP ∷ []
 
 -- 01, "The tree": "Below IDREC: BPFDEC then BPJDEC; .. Below SCP: BPFSCP then BPJSCP"
 unfoldable pub beneficiaries : List ℕ

@@ -6,7 +6,7 @@ use mathlib.Core.List.{List, [], _∷_, _++_, map}
 use lib.Dec.{leb, eqb}
 use lib.ListN.{length}
 use Rattle.dirf.specs.Bytes.{if_then_else_, every}
-use Rattle.dirf.specs.Kinds.{Dirf, RESPO, DECPF, DECPJ, IDREC, FIMDirf, blocks, beneficiaries, values, later}
+use Rattle.dirf.specs.Kinds.{IDREC, alone, blocks, beneficiaries, values, later}
 use Rattle.dirf.specs.Row.{Row, Format, C, N, D, Fill, fixed, variable, Holds, identifier, amount, months, ddd, telephone}
 use Rattle.dirf.specs.Row.{cpf, cnpj, cpfOrCnpj, plain, oneOf}
 use Rattle.dirf.specs.Edition.{Edition, rowsOf, kindOf, isBase}
@@ -54,7 +54,7 @@ pub record RowsRight (e : Edition) : Type 0 where
 
 -- each kind is one thing: a record that stands alone, an IDREC, a block, a beneficiary, a value record, or left for later
 abbrev pub sorts : List ℕ
-sorts = Dirf ∷ RESPO ∷ DECPF ∷ DECPJ ∷ FIMDirf ∷ IDREC ∷ (blocks ++ beneficiaries ++ values ++ later)
+sorts = alone ++ (IDREC ∷ blocks) ++ beneficiaries ++ values ++ later
 
 abbrev pub kindsOf : Edition → List ℕ
 kindsOf e = map (λ n. n .0) (e .names)

@@ -6,5 +6,6 @@ pub mod Answered
 pub mod GoodSoFar
 pub mod Counts
 pub mod Whose
+pub mod Entries
 pub mod ThereAndBack
 pub mod Demands

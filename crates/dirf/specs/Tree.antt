@@ -6,7 +6,7 @@ use mathlib.Core.Option.{Option, none, some}
 use lib.Dec.{eqb, ltb, leb}
 use lib.ListN.{length, getD}
 use Rattle.dirf.specs.Bytes.{if_then_else_, Text, isIn, lookup}
-use Rattle.dirf.specs.Kinds.{Dirf, RESPO, DECPF, DECPJ, IDREC, FCI, PROC, RRA, BPFDEC, BPJDEC, BPFFCI, BPJFCI, BPFPROC}
+use Rattle.dirf.specs.Kinds.{Dirf, RESPO, declarants, IDREC, FCI, PROC, RRA, BPFDEC, BPJDEC, BPFFCI, BPJFCI, BPFPROC}
 use Rattle.dirf.specs.Kinds.{BPJPROC, BPFRRA, FIMDirf, isValue}
 use Rattle.dirf.specs.Edition.{Edition}
 
@@ -36,7 +36,7 @@ opened (r ∷ rs) =
 
 -- 01, "The tree": "Lines 1, 2, 3 are Dirf, RESPO and one of DECPF or DECPJ."
 unfoldable pub opening : List (List ℕ)
-opening = (Dirf ∷ []) ∷ (RESPO ∷ []) ∷ (DECPF ∷ DECPJ ∷ []) ∷ []
+opening = (Dirf ∷ []) ∷ (RESPO ∷ []) ∷ declarants ∷ []
 
 -- the kind of the declarant: the last of the opening lines
 unfoldable pub declarant : List Rec → ℕ
@@ -82,7 +82,10 @@ place e before k = placeIn e (declarant before) none (opened before) k
 unfoldable pub parentOf : Edition → List Rec → ℕ → ℕ
 parentOf e before k = numberOfFirst (place e before k .up)
 
--- 01, "The tree": "Blocks .. in this order", "BPFDEC then BPJDEC". The order of kind numbers is the order of these siblings.
+-- 01, "The tree": "Blocks .. in this order", "BPFDEC then BPJDEC". Below a declarant, an IDREC and an SCP the order of kind numbers is
+-- the order of siblings: so a record may not have a lower number than the one that opened last under the same parent. Below a
+-- beneficiary there is no order ("in any order"): a value record opens nothing, so none has opened last there. `Sound` asks an edition
+-- that its lists are in the order of kind numbers wherever there is an order.
 unfoldable pub inOrder : Option Open → ℕ → Bool
 inOrder none k = true
 inOrder (some o) k = leb (o .kind) k

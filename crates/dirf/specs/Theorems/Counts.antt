@@ -1,5 +1,6 @@
--- 01, "What each contract has to say": "on acceptance both equal the line ends; on refusal the records are one fewer than the line
--- named". And what acceptance says of the limits.
+-- Demand 1: "A refused file leaves the record table holding the lines before the bad one", counted; and 01, "What each contract has to
+-- say": "on acceptance both equal the line ends; on refusal the records are one fewer than the line named". And what the answer says of
+-- the limits.
 use Prim.Native.Nat.{ℕ, suc, _≤_}
 use mathlib.Core.Path.{_≡_}
 use mathlib.Core.Logic.{_≢_}

@@ -1,5 +1,7 @@
--- Demand 3: "A file cut after a whole line either can still become accepted with at most four more lines, or is refused and nothing
--- written after it changes number, line, field or table."
+-- Demand 3: "Take a file that ends after a whole line, or is empty, with at most 65,532 line ends and table room for four records more
+-- than it has line ends. Then either it can still become an accepted file, and at most four further lines do it, or it is refused and
+-- nothing written after it changes the number, the line, the field or the table. The first happens exactly when the answer is
+-- acceptance or 'file not closed'."
 use Prim.Native.Nat.{ℕ, suc, _+_, _≤_}
 use mathlib.Core.Path.{_≡_}
 use mathlib.Core.Bool.{_&&_}
@@ -10,7 +12,7 @@ use Rattle.dirf.specs.Edition.{Edition}
 use Rattle.dirf.specs.Check.{verdict}
 use Rattle.dirf.specs.Theorems.Answered.{Accepted}
 
--- "cut after a whole line", at its widest: empty, or the last two bytes are CR LF
+-- "a file that ends after a whole line, or is empty", at its widest: the last two bytes are CR LF
 pub data Whole : Text → Type 0 where
   empty : Whole []
   ends-in-CR-LF : (s : Text) → Whole (s ++ (13 ∷ 10 ∷ []))
@@ -21,18 +23,19 @@ lineEnds [] = 0
 lineEnds (b ∷ []) = 0
 lineEnds (b ∷ c ∷ s) = if eqb b 13 && eqb c 10 then suc (lineEnds s) else lineEnds (c ∷ s)
 
--- at most 65,532 line ends, and room for four entries more
+-- "with at most 65,532 line ends and table room for four records more than it has line ends"
 pub record Unfinished (s : Text) (room : ℕ) : Type 0 where
   pub whole : Whole s
   pub few : lineEnds s ≤ 65532
   pub roomy : lineEnds s + 4 ≤ room
 
 pub record GoodSoFar (e : Edition) (s : Text) (room : ℕ) : Type 0 where
-  -- number 0 or 1: at most four further whole lines make it accepted
+  -- "it can still become an accepted file, and at most four further lines do it": where the answer is acceptance, 0, or "file not
+  -- closed", 1
   pub can : verdict e s room .number ≤ 1 → (t : Text) × Whole t × (lineEnds t ≤ 4) × Accepted e (s ++ t) room
-  -- and only then can anything at all
+  -- "The first happens exactly when": whatever makes it accepted, the answer was one of the two
   pub only-then : (t : Text) → Accepted e (s ++ t) room → verdict e s room .number ≤ 1
-  -- any other number: nothing written after it changes number, line, field or table
+  -- "or it is refused and nothing written after it changes the number, the line, the field or the table"
   pub final : (verdict e s room .number ≤ 1 → ⊥) → (t : Text) → verdict e (s ++ t) room ≡ verdict e s room
 
 abbrev pub GoodUpToHere : Edition → Type 0

@@ -1,12 +1,14 @@
 -- Plain words of mathematics that the statements use: membership, places in a list, dates, smaller keys.
 use Prim.Native.Nat.{ℕ, suc, _%_, _≤_, _<_}
 use mathlib.Core.Path.{_≡_}
+use mathlib.Core.Bool.{true}
 use mathlib.Core.Logic.{_⊎_, _≢_}
 use mathlib.Core.List.{List, [], _∷_, _++_, List·Memᴰ}
 use lib.ListN.{take, drop}
 use Rattle.dirf.specs.Bytes.{Text}
 use Rattle.dirf.specs.Row.{Format, C, N, D, Fill, fixed, variable}
 use Rattle.dirf.specs.Row.{Holds, identifier, amount, months, ddd, telephone, cpf, cnpj, cpfOrCnpj, plain, oneOf}
+use Rattle.dirf.specs.Lines.{Piece}
 use Rattle.dirf.specs.Numbers.{valueOf}
 
 infix 4 _∈_
@@ -17,6 +19,10 @@ x ∈ xs = List·Memᴰ x xs
 pub data Nth {A : Type 0} : List A → ℕ → A → Type 0 where
   this : {x : A} {xs : List A} → Nth (x ∷ xs) 1 x
   next : {x y : A} {xs : List A} {n : ℕ} → Nth xs n y → Nth (x ∷ xs) (suc n) y
+
+-- a line with its CR LF, as a piece of a file
+abbrev pub wholeLine : Text → Piece
+wholeLine s = record { body = s; ended = true }
 
 -- no byte of a text is CR or LF
 abbrev pub NoLineEnd : Text → Type 0

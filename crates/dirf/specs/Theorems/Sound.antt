@@ -1,19 +1,20 @@
 -- What is asked of an edition: computed tests over its tables, proved once for each edition. The theorems hold for every such edition.
 use Prim.Native.Nat.{ℕ, _≤_, _<_}
 use mathlib.Core.Path.{_≡_}
-use mathlib.Core.Bool.{true, false, not}
-use mathlib.Core.Logic.{_≢_}
+use mathlib.Core.Bool.{Bool, true, false, _&&_, not}
+use mathlib.Core.Logic.{_≢_, _⊎_}
 use mathlib.Core.List.{List, [], _∷_, map}
-use lib.Dec.{eqb}
+use lib.Dec.{eqb, ltb}
 use lib.ListN.{length}
 use Rattle.dirf.specs.Bytes.{if_then_else_, Text, every, isIn, lookup}
-use Rattle.dirf.specs.Kinds.{IDREC, SCP, FIMDirf, isValue, isBeneficiary, isBlock}
+use Rattle.dirf.specs.Kinds.{IDREC, SCP, FIMDirf, declarants, blocks, withIDREC, belowSCP, isValue, isBeneficiary, isBlock}
 use Rattle.dirf.specs.Row.{Row, Need, obligatory, optional, Holds, identifier, plain}
 use Rattle.dirf.specs.Edition.{Edition}
 use Rattle.dirf.specs.Tables.{RowsRight, KindsRight}
 use Rattle.dirf.specs.Rules.{keeps, first}
 use Rattle.dirf.specs.Tree.{Rec}
 use Rattle.dirf.specs.Order.{here, order, closed, kindOfLine}
+use Rattle.dirf.specs.Theorems.Plain.{_∈_}
 
 -- how deep a kind stands: the declarant 0; FCI, PROC, RRA 1; IDREC and SCP 2; beneficiaries 3; value records 4
 unfoldable pub level : ℕ → ℕ
@@ -24,11 +25,24 @@ level k =
     else if isBlock k then 1
     else 0
 
--- a record stands deeper than what holds it; beneficiaries hold value records, and IDREC and SCP hold beneficiaries, and nothing else does
+-- 01, "The tree": what it means that the lists have a record of kind k directly below one of kind h
 pub record Nested (h k : ℕ) : Type 0 where
+  -- it stands deeper
   pub deeper : level h < level k
+  -- a value record stands below a beneficiary, and a beneficiary below an IDREC or an SCP
   pub of-beneficiary : level k ≡ 4 → level h ≡ 3
   pub of-IDREC-or-SCP : level k ≡ 3 → level h ≡ 2
+  -- "Below SCP: BPFSCP then BPJSCP, no IDREC"
+  pub of-SCP : h ≡ SCP → k ∈ belowSCP
+  -- "IDREC belongs to the open FCI, PROC or RRA, else to the declarant"
+  pub of-block-or-declarant : k ≡ IDREC → (h ∈ withIDREC) ⊎ (h ∈ declarants)
+  -- "Blocks under DECPF .. Under DECPJ": a block stands below a declarant
+  pub of-declarant : k ∈ blocks → h ∈ declarants
+
+-- the numbers of a list rise
+unfoldable pub rising : List ℕ → Bool
+rising [] = true
+rising (k ∷ ks) = every (ltb k) ks && rising ks
 
 -- a line keeps every rule after some records, if it is not too late for any line
 abbrev pub KeptAfter : Edition → Text → List Rec → Type 0
@@ -63,4 +77,7 @@ pub record Sound (e : Edition) : Type 0 where
   -- every field table begins with the record's identifier, obligatory
   pub identified : map (λ g. firstOf (g .1)) (e .layout) ≡ map (λ g. (obligatory, identifier)) (e .layout)
   pub nested : (d h k : ℕ) → isIn k (lookup [] (e .below d) h) ≡ true → Nested h k
+  -- the lists name what stands below a record in document 01's order, and kind numbers rise along them; below a beneficiary there is
+  -- no order
+  pub ordered : (d h : ℕ) → isBeneficiary h ≡ false → rising (lookup [] (e .below d) h) ≡ true
   pub closable : Closable e

@@ -13,7 +13,7 @@ use Rattle.dirf.specs.Order.{here, kindOfLine}
 use Rattle.dirf.specs.FieldReader.{fieldThere, fieldOf, fieldStart, fieldLength}
 use Rattle.dirf.specs.Amounts.{readAmount, readMonths, writeAmount, writeMonths}
 use Rattle.dirf.specs.LineWriter.{cut, writeLine}
-use Rattle.dirf.specs.Theorems.Plain.{_∈_}
+use Rattle.dirf.specs.Theorems.Plain.{_∈_, wholeLine}
 use Rattle.dirf.specs.Theorems.Breach.{Breach}
 
 -- the numbers that a line can give by itself, whatever stands before it and however much room there is
@@ -24,11 +24,8 @@ ofTheLine = 4 ∷ 5 ∷ 6 ∷ 8 ∷ 9 ∷ 10 ∷ 11 ∷ 13 ∷ 14 ∷ 15 ∷ 16 
 abbrev pub Sound-line : Edition → Piece → Type 0
 Sound-line e p = (room : ℕ) (before : List Rec) (n f : ℕ) → n ∈ ofTheLine → Breach (here e room before p) n f → ⊥
 
--- a line with its CR LF
-abbrev pub wholeLine : Text → Piece
-wholeLine s = record { body = s; ended = true }
-
--- Demand 2: "The line writer gives exactly the line that reads back as the fields it was given, or its first refusal."
+-- Demand 2: "The line writer gives exactly the line that reads back as the fields it was given, or the first refusal that document 01
+-- lists for it."
 -- What it wrote is cut as one whole line with nothing left over, its fields are those given, its kind is the one given, and it breaks
 -- no rule of a line.
 pub record ReadsBack (e : Edition) (k : ℕ) (text : Text) (lengths : List ℕ) (written : Text) : Type 0 where
