@@ -12,11 +12,11 @@ use Rattle.dirf.specs.Tree.{Rec}
 use Rattle.dirf.specs.Check.{tableOf, numbersOf, entryOf, verdict}
 use Rattle.checker.specs.State.{startState}
 use Rattle.checker.specs.Turn.{turnOf}
-use Rattle.checker.specs.Answers.{answerOf, tableAfter, putEntry}
+use Rattle.checker.specs.Answers.{answerOf, tableAfter, entryNumbers, putEntry}
 use Rattle.checker.specs.declared.State.{State}
 use Rattle.checker.specs.declared.Stepped.{Stepped}
 use Rattle.checker.proofs.Reading.{Reading, Step, Goes, reading-start, step}
-use Rattle.checker.proofs.Table.{numbers, take-put, drop-put, numbers-next}
+use Rattle.checker.proofs.Table.{take-put, drop-put, numbers-next}
 
 -- between two lines, with a room alone
 pub record Between (file : Text) (room : ℕ) (st : State) : Type 0 where
@@ -66,8 +66,8 @@ module _ {file : Text} {first t : List ℕ} {st : State} (s : Stepped) (h : Held
     pub entry-fits : (st .count ≤ 65536) × ((4 * st .count + 4 ≤ length t) × ((s .entry .start < 4294967296) × (s .entry .len < 4294967296)))
     entry-fits = let r : st .count < length first / 4 = on .in-room in (h .between .reading .few, (omega (arith, h .same), on .small))
 
-    pub held-next : Held file first (length first / 4) (putEntry t (4 * st .count) (s .entry)) (s .next)
-    unfolding putEntry entryOf between-next
+    pub held-next : Held file first (length first / 4) (putEntry t (4 * st .count) (entryNumbers (s .entry))) (s .next)
+    unfolding entryNumbers putEntry entryOf between-next
     held-next =
         let i : 4 * s .next .count ≡ 4 * st .count + 4 = omega (arith, on .count) in
         let w : 4 * st .count + 4 ≤ length t = entry-fits .1 .0 in
@@ -76,6 +76,6 @@ module _ {file : Text} {first t : List ℕ} {st : State} (s : Stepped) (h : Held
           whole = simp length-set (omega arith);
           same = simp length-set (h .same);
           entries = rw (i, take-put t first (4 * st .count) (s .entry) w (h .left))
-              (ap₂ (λ x y. x ++ numbers y) (h .entries) (on .entry) ∙ sym (numbers-next (on .rec) (h .between .before)));
+              (ap₂ (λ x y. x ++ entryNumbers y) (h .entries) (on .entry) ∙ sym (numbers-next (on .rec) (h .between .before)));
           left = rw i (drop-put t first (4 * st .count) (s .entry) w (h .left));
         }

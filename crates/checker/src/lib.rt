@@ -9,7 +9,7 @@ ghost use Rattle.dirf.specs.Edition.{edition2025};
 ghost use Rattle.dirf.specs.Lines.{clean};
 ghost use Rattle.dirf.specs.Check.{verdict};
 ghost use Rattle.fields.specs.Places.{partOf, placesOf};
-ghost use Rattle.checker.specs.Answers.{answerOf, tableAfter, putEntry};
+ghost use Rattle.checker.specs.Answers.{answerOf, tableAfter, entryNumbers, putEntry};
 ghost use Rattle.checker.specs.State.{startState, above as aboveOf, heldAt, orderAt, belowOn, standsOn, seenOn, keyBefore, keyAfter, keyOn, declarantOf, keyPlaces, commitState};
 ghost use Rattle.layout.specs.Tables.{nameTable, rowTable, pfTable, pjTable};
 ghost use Rattle.checker.specs.Turn.{endOf, lineAt, Lent, Fits, haltAt, halt, orderStep, contentStep, countStep, placeStep, kindStep, recordStep, lineStep, turnOf};
@@ -392,14 +392,17 @@ fn ordered(
     ensures { λ r. ⌜ r ≡ orderStep (now (file .entry)) room st len k d q ⌝ }
 {
     let kinds = st.seen;
-    if seen(kinds, k) {
+    let n = st.count + 1;
+    let again = seen(kinds, k);
+    let unordered = key_bad(file, st, k, d, q);
+    let full = room < n as usize;
+    if again {
         return refuse(st, 21, 1);
     }
-    if key_bad(file, st, k, d, q) {
+    if unordered {
         return refuse(st, 20, 2);
     }
-    let n = st.count + 1;
-    if room < n as usize {
+    if full {
         return refuse(st, 7, 0);
     }
     let at = st.at;
@@ -598,16 +601,27 @@ fn turn(
 
 // ---- the check
 
+// The numbers of an entry, in the table's order.
+fn entry_numbers(e: Entry) -> [u32; 4]
+    requires { ⌜ (e .start < 4294967296) × (e .len < 4294967296) ⌝ }
+    ensures { λ r. ⌜ r ≡ entryNumbers e ⌝ }
+{
+    [e.kind, e.start as u32, e.len as u32, e.parent]
+}
+
 // Entry n of the table, from 0.
-fn put_entry(table: &mut [u32], n: u32, e: Entry)
-    requires { ⌜ (n ≤ 65536) × ((4 * n + 4 ≤ length (now table)) × ((e .start < 4294967296) × (e .len < 4294967296))) ⌝ }
-    ensures { λ r. ⌜ now (table .exit) ≡ putEntry (now (table .entry)) (4 * n) e ⌝ }
+fn put_entry(table: &mut [u32], n: u32, row: &[u32])
+    requires { ⌜ (n ≤ 65536) × ((4 * n + 4 ≤ length (now table)) × (4 ≤ length (now row))) ⌝ }
+    ensures { λ r. ⌜ now (table .exit) ≡ putEntry (now (table .entry)) (4 * n) (now (row .entry)) ⌝ }
 {
     let i = 4 * (n as usize);
-    table[i] = e.kind;
-    table[i + 1] = e.start as u32;
-    table[i + 2] = e.len as u32;
-    table[i + 3] = e.parent;
+    let j = i + 1;
+    let k = i + 2;
+    let l = i + 3;
+    table[i] = row[0];
+    table[j] = row[1];
+    table[k] = row[2];
+    table[l] = row[3];
 }
 
 // The check: acceptance with a record table, or the first breach with the entries before it.
@@ -626,7 +640,8 @@ pub fn check(file: &[u8], table: &mut [u32]) -> Answer
         if s.stop {
             return s.answer;
         }
-        put_entry(table, st.count, s.entry);
+        let row = entry_numbers(s.entry);
+        put_entry(table, st.count, &row);
         st = s.next;
     }
 }

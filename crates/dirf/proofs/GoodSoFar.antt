@@ -21,7 +21,7 @@ use Rattle.dirf.specs.Theorems.Plain.{NoLineEnd, wholeLine}
 use Rattle.dirf.specs.Theorems.Breach.{stray}
 use Rattle.dirf.specs.Theorems.Sound.{Closable, Sound}
 use Rattle.dirf.specs.Theorems.Answered.{recs, Closed, Accepted, FirstBroken}
-use Rattle.dirf.specs.Theorems.GoodSoFar.{Whole, empty, ends-in-CR-LF, lineEnds, Unfinished, GoodSoFar, GoodUpToHere}
+use Rattle.dirf.specs.Theorems.GoodSoFar.{Whole, empty, ends-in-CR-LF, lineEnds, Unfinished, CanBecomeAccepted, GoodSoFar, GoodUpToHere}
 use Rattle.dirf.proofs.Says.{denies}
 use Rattle.dirf.proofs.TestsSay.{closed-says}
 use Rattle.dirf.proofs.RunLaws.{Kept, Fate, passes, stops, fate, kept-verdict, stops-verdict, kept-append}
@@ -138,10 +138,10 @@ module _ (e : Edition) (sound : Sound e) (room : ℕ) where
       count : length before ≡ lineEnds s
       count = length-recs e [] (pieces s) ∙ zero-add (length (pieces s)) ∙ line-count s (whole-ended (u .whole))
 
-      build : verdict e s room .number ≤ 1 → ((t : Text) × Whole t × (lineEnds t ≤ 4) × Accepted e (s ++ t) room) → GoodSoFar e s room
+      build : verdict e s room .number ≤ 1 → CanBecomeAccepted e s room → GoodSoFar e s room
       build ok t = record { can = λ _. t; only-then = λ t a. ok; final = λ n t. absurd (n ok) }
 
-      with-text : (m : ℕ) → m ≤ 4 → Closes e room before m → (t : Text) × Whole t × (lineEnds t ≤ 4) × Accepted e (s ++ t) room
+      with-text : (m : ℕ) → m ≤ 4 → Closes e room before m → CanBecomeAccepted e s room
       with-text m h t = (t .text, t .is-whole, omega (arith, t .few), accepted-after s (t .text) (u .whole) k (t .kept) (t .shut))
 
       go : (b : Bool) → closed before ≡ b → GoodSoFar e s room

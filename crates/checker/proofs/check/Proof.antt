@@ -1,5 +1,7 @@
 use Prim.Native.Nat.{_-_}
 use borrow.Author.Needs.{needs}
+use native.Mathlib.Omega.{arith}
+use Rattle.checker.specs.Answers.{entryNumbers}
 use Rattle.checker.proofs.Reading.{shallow}
 use Rattle.checker.proofs.Held.{Held, held-start, answered, table-left, entry-fits, fewer, held-next}
 use Rattle.checker.proofs.check.Statement.{statement}
@@ -33,23 +35,33 @@ returns c =
     let stops = c .before .if1 .taken in
     (answered (u .result) (l .inv .between) (u .ensures) stops, table-left (u .result) (l .inv) (u .ensures) stops)
 
+entry-numbers-requires : tie.Need-entry-numbers-requires Inv-loop μ-loop
+entry-numbers-requires c κs =
+    let l = c .before .before .before .before .before .before .loop in
+    let u = c .before .turn in
+    entry-fits (u .result) (l .inv) (u .ensures) (c .if1 .left) .1 .1
+
 put-entry-requires : tie.Need-put-entry-requires Inv-loop μ-loop
+unfolding entryNumbers
 put-entry-requires c κs =
-    let l = c .before .before .before .before .before .before .before .loop in
-    let u = c .before .before .turn in
-    entry-fits (u .result) (l .inv) (u .ensures) (c .before .if1 .left)
+    let l = c .before .before .before .before .before .before .before .before .before .loop in
+    let u = c .before .before .before .before .turn in
+    let f = entry-fits (u .result) (l .inv) (u .ensures) (c .before .before .before .if1 .left) in
+    (f .0, (f .1 .0, rw (c .before .before .entry-numbers .ensures) (omega arith)))
 
 loop-less : tie.Need-loop-less Inv-loop μ-loop
 loop-less c =
-    let l = c .before .before .before .before .before .before .before .before .before .before .before .loop in
-    let u = c .before .before .before .before .before .before .turn in
-    fewer (u .result) (l .inv .between) (u .ensures) (c .before .before .before .before .before .if1 .left)
+    let l = c .before .before .before .before .before .before .before .before .before .before .before .before .before .loop in
+    let u = c .before .before .before .before .before .before .before .before .turn in
+    fewer (u .result) (l .inv .between) (u .ensures) (c .before .before .before .before .before .before .before .if1 .left)
 
 loop-again : tie.Need-loop-again Inv-loop μ-loop
 loop-again c =
-    let l = c .before .before .before .before .before .before .before .before .before .before .before .loop in
-    let u = c .before .before .before .before .before .before .turn in
-    rw (c .before .before .before .put-entry .ensures) (held-next (u .result) (l .inv) (u .ensures) (c .before .before .before .before .before .if1 .left))
+    let l = c .before .before .before .before .before .before .before .before .before .before .before .before .before .loop in
+    let u = c .before .before .before .before .before .before .before .before .turn in
+    let goes = c .before .before .before .before .before .before .before .if1 .left in
+    rw (c .before .before .before .put-entry .ensures, c .before .before .before .before .before .before .entry-numbers .ensures)
+    (held-next (u .result) (l .inv) (u .ensures) goes)
 
 pub check-spec : {M : Type 1} → statement M
 check-spec =
@@ -66,6 +78,8 @@ check-spec =
     turn-requires
     (λ c. search needs)
     returns
+    entry-numbers-requires
+    (λ c. search needs)
     put-entry-requires
     loop-less
     loop-again)

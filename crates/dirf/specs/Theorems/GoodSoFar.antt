@@ -29,11 +29,14 @@ pub record Unfinished (s : Text) (room : ℕ) : Type 0 where
   pub few : lineEnds s ≤ 65532
   pub roomy : lineEnds s + 4 ≤ room
 
+-- "it can still become an accepted file, and at most four further lines do it"
+abbrev pub CanBecomeAccepted : Edition → Text → ℕ → Type 0
+CanBecomeAccepted e s room = (t : Text) × Whole t × (lineEnds t ≤ 4) × Accepted e (s ++ t) room
+
 pub record GoodSoFar (e : Edition) (s : Text) (room : ℕ) : Type 0 where
-  -- "it can still become an accepted file, and at most four further lines do it": where the answer is acceptance, 0, or "file not
-  -- closed", 1
-  pub can : verdict e s room .number ≤ 1 → (t : Text) × Whole t × (lineEnds t ≤ 4) × Accepted e (s ++ t) room
-  -- "The first happens exactly when": whatever makes it accepted, the answer was one of the two
+  -- "The first happens exactly when the answer is acceptance", 0, "or 'file not closed'", 1: then four lines do it,
+  pub can : verdict e s room .number ≤ 1 → CanBecomeAccepted e s room
+  -- and whatever makes it accepted, four lines or any other text, the answer was one of the two
   pub only-then : (t : Text) → Accepted e (s ++ t) room → verdict e s room .number ≤ 1
   -- "or it is refused and nothing written after it changes the number, the line, the field or the table"
   pub final : (verdict e s room .number ≤ 1 → ⊥) → (t : Text) → verdict e (s ++ t) room ≡ verdict e s room
