@@ -8,3 +8,4 @@ pub mod PlaceLaws
 pub mod Determined
 pub mod Inside
 pub mod Along
+pub mod Slips
