@@ -1,12 +1,17 @@
 #!/usr/bin/env python3
-"""Writes crates/replay/stdin, a run of cases, and crates/replay/stdout, what document 01 demands for each.
+"""Writes stdin, a run of cases, and stdout, what document 01 demands for each, to crates/replay or to the folder that is named.
 
 Nothing here asks the program. Of a file the number, the line and the field are written beside it, and the indents of its lines say which
-line is the parent of which. Of a record's fields ROWS has what the sources print, and each case says what it breaks. The layout of a case
-is in docs/REPLAY.md. Run it from anywhere; it writes the same bytes every time.
+line is the parent of which; of docs/TOUR.md's file the page says it. Of a record's fields ROWS has what the sources print, and each case
+says what it breaks. The layout of a case is in docs/REPLAY.md. Run it from anywhere; it writes the same bytes every time.
 """
 import os
 import struct
+import sys
+
+# no folder of compiled modules is left in the repository
+sys.dont_write_bytecode = True
+import tour as tour_page
 
 ROOT = os.path.dirname(os.path.dirname(os.path.abspath(__file__)))
 END = "\r\n"
@@ -53,6 +58,10 @@ BELOW = {
         "BPJSCP": ["RISCP"],
     },
 }
+
+# the beneficiaries of each block, the declarant's own under ""
+BLOCKS = {"": "BPFDEC BPJDEC", "FCI": "BPFFCI BPJFCI", "PROC": "BPFPROC BPJPROC", "RRA": "BPFRRA", "SCP": "BPFSCP BPJSCP"}
+ORDER = "IDREC FCI PROC RRA SCP".split()
 
 # a line of each record that keeps every rule; value records besides, below
 LINE = {
@@ -325,10 +334,9 @@ def places():
     check(pf("  SCP\n    IDREC"), 12, 5, 1)
     check(pj("  IDREC\n    BPFFCI"), 12, 5, 1)
     # the beneficiaries of one block, below an IDREC of another
-    blocks = {"": "BPFDEC BPJDEC", "FCI": "BPFFCI BPJFCI", "PROC": "BPFPROC BPJPROC", "RRA": "BPFRRA", "SCP": "BPFSCP BPJSCP"}
     for tree, block in ((pj, ""), (pj, "FCI"), (pj, "PROC"), (pj, "RRA"), (pf, ""), (pf, "RRA")):
-        for other in blocks:
-            for name in blocks[other].split():
+        for other in BLOCKS:
+            for name in BLOCKS[other].split():
                 lead = "  IDREC\n    " if block == "" else "  " + block + "\n    IDREC\n      "
                 line = 5 if block == "" else 6
                 if other == block:
@@ -339,9 +347,8 @@ def places():
         check(pj("  SCP\n    " + name), 12, 5, 1)
         check(pj("  RRA\n    " + name), 12, 5, 1)
     # blocks and beneficiaries in their order
-    order = "IDREC FCI PROC RRA SCP".split()
-    for i, first in enumerate(order):
-        for j, second in enumerate(order):
+    for i, first in enumerate(ORDER):
+        for j, second in enumerate(ORDER):
             # an IDREC behind FCI, PROC or RRA is theirs; behind SCP it may not stand
             if second == "IDREC" and first in ("FCI", "PROC", "RRA"):
                 check(pj("  " + first + "\n    IDREC\nFIMDirf"), 0, 6)
@@ -789,6 +796,101 @@ def numbers():
                     case(letter, [number(value), number(room)], words(15, 0, 1))
 
 
+# ---- docs/TOUR.md: what the page says of each line, held by what that line and others in its place would give
+
+
+def check_lines(lines, breach, line, field=0):
+    check_bytes("".join(text + END for text, _ in lines), lines, breach, line, field)
+
+
+# DECPJ's list; below an IDREC it hangs on what that belongs to
+HELD = {"DECPJ": ORDER, "FCI": ["IDREC"], "PROC": ["IDREC"], "RRA": ["IDREC"], "SCP": BLOCKS["SCP"].split(), **BELOW["DECPJ"]}
+
+
+def may_hold(holder, outer, name):
+    """Whether a record may stand directly below an open one, which itself stands below an outer one."""
+    if holder == "IDREC":
+        return name in BLOCKS.get("" if outer == "DECPJ" else outer, "").split()
+    return name in HELD.get(holder, [])
+
+
+def parent_among(opened, name):
+    """The line of the innermost open record that may hold a record; 0 where none may, or where a later kind has opened below it."""
+    inner = ""
+    for (number, holder), (_, outer) in zip(opened, opened[1:] + [(0, "nothing")]):
+        if may_hold(holder, outer, name):
+            return number if inner == "" or KIND[inner] <= KIND[name] else 0
+        inner = holder
+    return 0
+
+
+# for each record that can be open in that file one that stands below it, with a key that no other passes
+PROBES = [LINE["RTIRF"], LINE["RISCP"], "IDREC|9999|", "PROC|3|9|||||"]
+PROBES += [with_field(name, 2, "9" * 14) for name in ("BPJDEC", "BPJPROC", "BPJSCP", "SCP")]
+
+
+def tour_open(before, opened):
+    """What is open: each probe goes below the open record that may hold it, and is 12 where none may."""
+    line, held = len(before) + 1, set()
+    for text in PROBES:
+        name = text.split("|")[0]
+        parent = parent_among(opened, name)
+        held.add(parent)
+        lines = before + [(text, parent)]
+        if parent == 0:
+            check_lines(lines, 12, line, 1)
+        elif name in VALUES and (name, parent) in [(there.split("|")[0], above) for there, above in before]:
+            check_lines(lines, 21, line, 1)
+        else:
+            check_lines(lines, 1, line + 1)
+    if not held >= {number for number, _ in opened}:
+        tour_page.stop(f"line {line}: no record would go below each of {opened}")
+
+
+def with_key(text, key):
+    cells = text.split("|")
+    return "|".join([cells[0], key] + cells[2:])
+
+
+KEYED = ORDER + " ".join(BLOCKS.values()).split()
+
+
+def tour_before(lines, line, row):
+    """What 20 and 21 look at: the least key passes where there is nothing before, else the key must pass that of the line named."""
+    before, (text, parent) = lines[: line - 1], lines[line - 1]
+    name, key = text.split("|")[:2]
+    # which of the two looks back hangs on the kind alone
+    if row.rule != (21 if name in VALUES else 20 if name in KEYED else 0):
+        tour_page.stop(f"line {line}: {row.rule} is not what looks back from {name}")
+    if row.rule == 21:
+        check_lines(before + 2 * [(text, parent)], 21, line + 1, 1)
+    elif row.rule == 20 and row.against == 0:
+        least = "1" if name in ("PROC", "RRA") else "0" * len(key)
+        check_lines(before + [(with_key(text, least), parent)], 1, line + 1)
+    elif row.rule == 20:
+        there, above = lines[row.against - 1]
+        there, key = there.split("|")[:2]
+        if row.against >= line or (there, above) != (name, parent):
+            tour_page.stop(f"line {line}: line {row.against} is not one before it of its kind under its parent")
+        check_lines(before + [(with_key(text, key), parent)], 20, line, 2)
+        check_lines(before + [(with_key(text, str(int(key) + 1).zfill(len(key))), parent)], 1, line + 1)
+
+
+def tour():
+    """The file of docs/TOUR.md whole and cut after each line; what the page says of each line; its spoiled lines."""
+    page = tour_page.read(os.path.join(ROOT, "docs", "TOUR.md"))
+    lines = [(text, row.parent) for text, row in zip(page.lines, page.rows)]
+    for line in range(1, len(lines)):
+        check_lines(lines[:line], 1, line + 1)
+    check_lines(lines, 0, len(lines))
+    for line, row in enumerate(page.rows, 1):
+        if line > tour_page.OPENING:
+            tour_open(lines[: line - 1], row.open)
+        tour_before(lines, line, row)
+    for line, text, answer in page.spoiled:
+        check_lines(lines[: line - 1] + [(text, 0)] + lines[line:], *answer)
+
+
 def limits():
     """The most that a case may have, and last of all a case beyond it: what comes after that is not read."""
     check_bytes("".join(text + END for text, _ in lines_of(SIX)), lines_of(SIX), 0, 6, room=3000, spare=3)
@@ -797,12 +899,11 @@ def limits():
     RUN.append(b"A" + string("1"))
 
 
-def main():
+def main(folder=os.path.join(ROOT, "crates", "replay")):
     for group in (marked, line_ends, identifiers, whole_files, places, below, orders, rooms, pairs, field_rules, identifier_rules,
     conditions, writer_order,
-                  field_places, numbers, limits):
+                  field_places, numbers, tour, limits):
         group()
-    folder = os.path.join(ROOT, "crates", "replay")
     with open(os.path.join(folder, "stdin"), "wb") as out:
         out.write(b"".join(RUN))
     with open(os.path.join(folder, "stdout"), "w", newline="\n") as out:
@@ -811,4 +912,4 @@ def main():
 
 
 if __name__ == "__main__":
-    main()
+    main(*sys.argv[1:])
