@@ -1,30 +1,52 @@
--- Whose each amount is, told of the table that the check wrote.
-use Prim.Native.Nat.{ℕ, _/_}
-use mathlib.Core.Path.{_≡_, ap}
-use mathlib.Core.List.{List, _++_}
-use lib.ListN.{length, drop}
+-- What the check leaves behind is what specs/Left says, whatever the file and the table: told of the contract of `check`.
+use Prim.Native.Nat.{ℕ, suc, _+_, _-_, _*_, _/_, _≤_}
+use mathlib.Core.Path.{_≡_, refl, sym, ap, _∙_, subst}
+use mathlib.Core.Bool.{Bool, true, false}
+use mathlib.Core.List.{List, [], _∷_, _++_}
+use native.Mathlib.Omega.{arith}
+use lib.ListN.{length, getD, drop}
+use lib.Seq.{length-front, length-take-le, take-at, getD-append-add, getD-drop}
 use denote.Ref.{now}
 use Rattle.dirf.specs.Bytes.{Text}
 use Rattle.dirf.specs.Edition.{edition2025}
-use Rattle.dirf.specs.Check.{Entry, numbersOf, verdict}
-use Rattle.dirf.specs.Theorems.Whose.{Owned}
-use Rattle.dirf.proofs.Whose.{whose}
-use Rattle.dirf.proofs.Edition2025.{sound2025}
+use Rattle.dirf.specs.Check.{Entry, numbersOf, Verdict, verdict}
+use Rattle.dirf.proofs.Demands.{demands2025}
 use Rattle.checker.specs.Answers.{answerOf, tableAfter}
-use Rattle.checker.specs.declared.Answer.{Answer}
+use Rattle.checker.specs.Left.{Left}
 use Rattle.checker.proofs.check.Reads as check
 
--- the table begins with entries of which every amount is its beneficiary's, as many as the answer says, and is else as it was
-module _ {K : Type 0} {A X S : K → Type 0} (ensures : (κs : K) → A κs → X κs → S κs → Type 0) (entries : (κs : K) → X κs → ℕ)
-    (before : (κs : K) → A κs → List ℕ) (after : (κs : K) → S κs → List ℕ) where
-  abbrev pub OwnedTable : Type 0
-  OwnedTable =
-      (κs : K) (a : A κs) (x : X κs) (s : S κs) → ensures κs a x s
-      → (t : List Entry) × Owned t × (entries κs x ≡ length t) × (after κs s ≡ numbersOf t ++ drop (length (numbersOf t)) (before κs a))
+length-numbers : (t : List Entry) → length (numbersOf t) ≡ 4 * length t
+unfolding numbersOf
+length-numbers [] = refl
+length-numbers (x ∷ t) = omega (arith, length-numbers t)
 
-pub written-whose : OwnedTable check.Post (λ κs x. x .entries) (λ κs a. now (a .1 .0)) (λ κs s. now (s .1 .0))
+-- entries, and behind them what stood there: nothing past them is touched
+past : (front before : List ℕ) (i : ℕ) → length front ≤ i → getD (front ++ drop (length front) before) i 0 ≡ getD before i 0
+past front before i h =
+    let j = i - length front in
+    let at : length front + j ≡ i = omega arith in
+    subst (λ i. getD (front ++ drop (length front) before) i 0 ≡ getD before i 0) at
+    (getD-append-add front (drop (length front) before) j 0 ∙ getD-drop (length front) before j 0)
+
+left : (file : Text) (before : List ℕ) → let v = verdict edition2025 file (length before / 4) in Left file before (tableAfter v before) (answerOf v)
 unfolding answerOf tableAfter
-written-whose κs a x s p =
-    let room : ℕ = length (now (a .1 .0)) / 4 in
-    let file : Text = now (a .0) in
-    (verdict edition2025 file room .table, whose edition2025 sound2025 file room, ap (λ (y : Answer). y .entries) (p .0), p .1)
+left file before =
+    let room : ℕ = length before / 4 in
+    let v : Verdict = verdict edition2025 file room in
+    let count = demands2025 .counts file room in
+    let long : length (numbersOf (v .table)) ≡ 4 * length (v .table) = length-numbers (v .table) in
+    record {
+      entries = v .table;
+      count = refl;
+      begins = take-at (numbersOf (v .table)) (drop (length (numbersOf (v .table))) before) (4 * length (v .table)) long;
+      accepted = λ q. count .when-accepted q .1 ∙ sym (count .when-accepted q .0);
+      refused = count .when-refused;
+      untouched = λ i h. past (numbersOf (v .table)) before i (omega (arith, long));
+      same-length = length-front before (numbersOf (v .table)) (length (numbersOf (v .table)))
+          (sym (length-take-le (length (numbersOf (v .table))) before (omega (arith, long, count .fits))));
+      whose = demands2025 .whose file room;
+      pointed = demands2025 .entries file room;
+    }
+
+pub check-left : (κs : _) (a : _) (x : _) (s : _) → check.Post κs a x s → Left (now (a .0)) (now (a .1 .0)) (now (s .1 .0)) x
+check-left κs a x s p = rw (p .0, p .1) (left (now (a .0)) (now (a .1 .0)))

@@ -1,3 +1,4 @@
 pub mod State
 pub mod Turn
 pub mod Answers
+pub mod Left
