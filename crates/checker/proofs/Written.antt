@@ -5,6 +5,7 @@ use mathlib.Core.List.{List, _++_}
 use lib.ListN.{length, drop}
 use denote.Ref.{now}
 use Rattle.dirf.specs.Bytes.{Text}
+use Rattle.dirf.specs.Limits.{numbersAnEntry}
 use Rattle.dirf.specs.Edition.{edition2025}
 use Rattle.dirf.specs.Check.{Entry, numbersOf, verdict}
 use Rattle.dirf.specs.Theorems.Whose.{Owned}
@@ -25,6 +26,6 @@ module _ {K : Type 0} {A X S : K → Type 0} (ensures : (κs : K) → A κs → 
 pub written-whose : OwnedTable check.Post (λ κs x. x .entries) (λ κs a. now (a .1 .0)) (λ κs s. now (s .1 .0))
 unfolding answerOf tableAfter
 written-whose κs a x s p =
-    let room : ℕ = length (now (a .1 .0)) / 4 in
+    let room : ℕ = length (now (a .1 .0)) / numbersAnEntry in
     let file : Text = now (a .0) in
     (verdict edition2025 file room .table, whose edition2025 sound2025 file room, ap (λ (y : Answer). y .entries) (p .0), p .1)
