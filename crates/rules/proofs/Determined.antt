@@ -9,7 +9,6 @@ use Rattle.rules.specs.Findings.{amountSays, monthSays}
 use Rattle.rules.proofs.field_rule.Reads as field-rule
 use Rattle.rules.proofs.read_amount.Reads as read-amount
 use Rattle.rules.proofs.read_months.Reads as read-months
-use Rattle.rules.proofs.conditions_found.Reads as conditions-found
 use Rattle.rules.proofs.contents_found.Reads as contents-found
 
 pub field-rule-one : One field-rule.Post
@@ -33,9 +32,6 @@ read-amount-one κs a x y s t p q = one-amount x y (p .0 ∙ sym (q .0)) (p .1) 
 
 pub read-months-one : One read-months.Post
 read-months-one κs a x y s t p q = one-month x y (p .0 ∙ sym (q .0)) (p .1) (q .1)
-
-pub conditions-found-one : One conditions-found.Post
-conditions-found-one κs a x y s t p q = p ∙ sym q
 
 pub contents-found-one : One contents-found.Post
 contents-found-one κs a x y s t p q = p ∙ sym q

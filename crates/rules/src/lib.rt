@@ -441,7 +441,7 @@ fn decpf_condition(bytes: &[u8], p: Places) -> u32
 }
 
 // 19: the lowest field at which a condition is broken.
-pub fn conditions_found(bytes: &[u8], p: Places, k: u32) -> Finding
+fn conditions_found(bytes: &[u8], p: Places, k: u32) -> Finding
     ensures { λ r. ⌜ r ≡ findingOf (askConditions 19 conditionOrder k (cellsAt (now (bytes .entry)) p)) ⌝ }
 {
     if k != 3 {
