@@ -617,8 +617,8 @@ fn put_entry(table: &mut [u32], n: u32, e: Entry)
 // The check: acceptance with a record table, or the first breach with the entries before it.
 pub fn check(file: &[u8], table: &mut [u32]) -> Answer
     ensures answer { λ r. ⌜ r ≡ answerOf (verdict edition2025 (now (file .entry)) (length (now (table .entry)) / numbersAnEntry)) ⌝ }
-    ensures entries { λ r. ⌜ now (table .exit) ≡ tableAfter (verdict edition2025 (now (file .entry)) (length (now (table .entry)) / numbersAnEntry))
-        (now (table .entry)) ⌝ }
+    ensures entries { λ r. ⌜ now (table .exit)
+        ≡ tableAfter (verdict edition2025 (now (file .entry)) (length (now (table .entry)) / numbersAnEntry)) (now (table .entry)) ⌝ }
 {
     let room = table.len() / NUMBERS_AN_ENTRY;
     let names = layout::name_table();
