@@ -7,6 +7,7 @@ use native.Mathlib.Omega.{arith}
 use lib.ListN.{length, take, drop, length-set, take-append-drop}
 use lib.Seq.{length-take-le}
 use Rattle.dirf.specs.Bytes.{Text}
+use Rattle.dirf.specs.Limits.{numbersAnEntry}
 use Rattle.dirf.specs.Edition.{edition2025}
 use Rattle.dirf.specs.Tree.{Rec}
 use Rattle.dirf.specs.Check.{tableOf, numbersOf, entryOf, verdict}
@@ -42,40 +43,45 @@ module _ {file : Text} {room : ℕ} {st : State} (s : Stepped) (h : Between file
 -- and with the table that stood there at first
 pub record Held (file : Text) (first : List ℕ) (room : ℕ) (t : List ℕ) (st : State) : Type 0 where
   pub between : Between file room st
-  pub whole : 4 * st .count ≤ length t
+  pub whole : numbersAnEntry * st .count ≤ length t
   pub same : length t ≡ length first
-  pub entries : take (4 * st .count) t ≡ numbersOf (tableOf (between .before))
-  pub left : drop (4 * st .count) t ≡ drop (4 * st .count) first
+  pub entries : take (numbersAnEntry * st .count) t ≡ numbersOf (tableOf (between .before))
+  pub left : drop (numbersAnEntry * st .count) t ≡ drop (numbersAnEntry * st .count) first
 
 pub held-start : (file : Text) (t : List ℕ) (room : ℕ) {st : State} → st ≡ startState → Held file t room t st
 unfolding startState tableOf numbersOf
 held-start file t room {st} e =
     rw e (record { between = record { before = []; reading = reading-start file room }; whole = omega arith; same = refl; entries = refl; left = refl })
 
-module _ {file : Text} {first t : List ℕ} {st : State} (s : Stepped) (h : Held file first (length first / 4) t st) (e : s ≡ turnOf file (length first / 4) st) where
-  pub table-left : s .stop ≡ true → t ≡ tableAfter (verdict edition2025 file (length first / 4)) first
+module _ {file : Text} {first t : List ℕ} {st : State} (s : Stepped) (h : Held file first (length first / numbersAnEntry) t st)
+    (e : s ≡ turnOf file (length first / numbersAnEntry) st) where
+  pub table-left : s .stop ≡ true → t ≡ tableAfter (verdict edition2025 file (length first / numbersAnEntry)) first
   unfolding tableAfter
   table-left d =
-      let r : take (4 * st .count) t ≡ numbersOf (verdict edition2025 file (length first / 4) .table) = h .entries ∙ ap numbersOf (sym (turned s (h .between) e .stops d .table)) in
-      rw (← r, length-take-le (4 * st .count) t (h .whole), ← h .left) (sym (take-append-drop (4 * st .count) t))
+      let r : take (numbersAnEntry * st .count) t ≡ numbersOf (verdict edition2025 file (length first / numbersAnEntry) .table) =
+      h .entries ∙ ap numbersOf (sym (turned s (h .between) e .stops d .table)) in
+      rw (← r, length-take-le (numbersAnEntry * st .count) t (h .whole), ← h .left) (sym (take-append-drop (numbersAnEntry * st .count) t))
 
   module _ (d : s .stop ≡ false) where
-    abbrev on : Goes file (length first / 4) st (h .between .before) s
+    abbrev on : Goes file (length first / numbersAnEntry) st (h .between .before) s
     on = turned s (h .between) e .goes d
 
-    pub entry-fits : (st .count ≤ 65536) × ((4 * st .count + 4 ≤ length t) × ((s .entry .start < 4294967296) × (s .entry .len < 4294967296)))
-    entry-fits = let r : st .count < length first / 4 = on .in-room in (h .between .reading .few, (omega (arith, h .same), on .small))
+    pub entry-fits : (st .count ≤ 65536)
+        × ((numbersAnEntry * st .count + numbersAnEntry ≤ length t) × ((s .entry .start < 4294967296) × (s .entry .len < 4294967296)))
+    entry-fits =
+        let r : st .count < length first / numbersAnEntry = on .in-room in
+        (h .between .reading .few, (omega (arith, h .same), on .small))
 
-    pub held-next : Held file first (length first / 4) (putEntry t (4 * st .count) (entryNumbers (s .entry))) (s .next)
+    pub held-next : Held file first (length first / numbersAnEntry) (putEntry t (numbersAnEntry * st .count) (entryNumbers (s .entry))) (s .next)
     unfolding entryNumbers putEntry entryOf between-next
     held-next =
-        let i : 4 * s .next .count ≡ 4 * st .count + 4 = omega (arith, on .count) in
-        let w : 4 * st .count + 4 ≤ length t = entry-fits .1 .0 in
+        let i : numbersAnEntry * s .next .count ≡ numbersAnEntry * st .count + numbersAnEntry = omega (arith, on .count) in
+        let w : numbersAnEntry * st .count + numbersAnEntry ≤ length t = entry-fits .1 .0 in
         record {
           between = between-next s (h .between) e d;
           whole = simp length-set (omega arith);
           same = simp length-set (h .same);
-          entries = rw (i, take-put t first (4 * st .count) (s .entry) w (h .left))
+          entries = rw (i, take-put t first (numbersAnEntry * st .count) (s .entry) w (h .left))
               (ap₂ (λ x y. x ++ entryNumbers y) (h .entries) (on .entry) ∙ sym (numbers-next (on .rec) (h .between .before)));
-          left = rw i (drop-put t first (4 * st .count) (s .entry) w (h .left));
+          left = rw i (drop-put t first (numbersAnEntry * st .count) (s .entry) w (h .left));
         }

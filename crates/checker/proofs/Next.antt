@@ -50,7 +50,7 @@ module _ (file : Text) (st : State) (before : List Rec) (h : Sums file st before
   r = record { kind = k; line = line; parent = parentOf edition2025 before k }
 
   next-declares : declarantOf st k ≡ declarant (r ∷ before)
-  unfolding r declarantOf declarant opening
+  unfolding declarantOf declarant opening
   next-declares =
       ap (λ n. if eqb n 2 then k else st .declarant) (h .count)
       ∙ ap (λ d. if eqb (length before) 2 then k else d) (h .declares)

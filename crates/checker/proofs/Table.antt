@@ -5,13 +5,14 @@ use mathlib.Core.List.{List, [], _∷_, _++_}
 use native.Mathlib.Omega.{arith}
 use lib.ListN.{length, take, drop, length-append}
 use lib.Seq.{sets-eq, take-at, drop-at, drop-drop, length-take-le}
+use Rattle.dirf.specs.Limits.{numbersAnEntry}
 use Rattle.dirf.specs.Tree.{Rec}
 use Rattle.dirf.specs.Check.{Entry, entryOf, tableOf, numbersOf}
 use Rattle.checker.specs.Answers.{entryNumbers, putEntry}
 use Rattle.checker.specs.declared.Entry as code
 
-module _ (t before : List ℕ) (i : ℕ) (e : code.Entry) (h : i + 4 ≤ length t) (same : drop i t ≡ drop i before) where
-  put-eq : putEntry t i (entryNumbers e) ≡ (take i t ++ entryNumbers e) ++ drop (i + 4) t
+module _ (t before : List ℕ) (i : ℕ) (e : code.Entry) (h : i + numbersAnEntry ≤ length t) (same : drop i t ≡ drop i before) where
+  put-eq : putEntry t i (entryNumbers e) ≡ (take i t ++ entryNumbers e) ++ drop (i + numbersAnEntry) t
   unfolding entryNumbers putEntry
   put-eq =
       let one : i + 1 ≡ suc i = omega arith in
@@ -19,17 +20,17 @@ module _ (t before : List ℕ) (i : ℕ) (e : code.Entry) (h : i + 4 ≤ length 
       let three : i + 3 ≡ suc (suc (suc i)) = omega arith in
       rw (one, two, three) (sets-eq (entryNumbers e) t i h)
 
-  long : length (take i t ++ entryNumbers e) ≡ i + 4
+  long : length (take i t ++ entryNumbers e) ≡ i + numbersAnEntry
   unfolding entryNumbers
   long = length-append (take i t) (entryNumbers e) ∙ rw (length-take-le i t (omega arith))
 
-  pub take-put : take (i + 4) (putEntry t i (entryNumbers e)) ≡ take i t ++ entryNumbers e
-  take-put = rw put-eq (take-at (take i t ++ entryNumbers e) (drop (i + 4) t) (i + 4) long)
+  pub take-put : take (i + numbersAnEntry) (putEntry t i (entryNumbers e)) ≡ take i t ++ entryNumbers e
+  take-put = rw put-eq (take-at (take i t ++ entryNumbers e) (drop (i + numbersAnEntry) t) (i + numbersAnEntry) long)
 
-  pub drop-put : drop (i + 4) (putEntry t i (entryNumbers e)) ≡ drop (i + 4) before
+  pub drop-put : drop (i + numbersAnEntry) (putEntry t i (entryNumbers e)) ≡ drop (i + numbersAnEntry) before
   drop-put =
-      rw put-eq (drop-at (take i t ++ entryNumbers e) (drop (i + 4) t) (i + 4) long)
-      ∙ sym (drop-drop 4 i t) ∙ ap (drop 4) same ∙ drop-drop 4 i before
+      rw put-eq (drop-at (take i t ++ entryNumbers e) (drop (i + numbersAnEntry) t) (i + numbersAnEntry) long)
+      ∙ sym (drop-drop numbersAnEntry i t) ∙ ap (drop numbersAnEntry) same ∙ drop-drop numbersAnEntry i before
 
 numbers-last : (es : List Entry) (e : Entry) → numbersOf (es ++ (e ∷ [])) ≡ numbersOf es ++ (e .kind ∷ e .start ∷ e .length ∷ e .parent ∷ [])
 unfolding numbersOf

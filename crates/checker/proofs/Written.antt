@@ -8,6 +8,7 @@ use lib.ListN.{length, getD, drop}
 use lib.Seq.{length-front, length-take-le, take-at, getD-append-add, getD-drop}
 use denote.Ref.{now}
 use Rattle.dirf.specs.Bytes.{Text}
+use Rattle.dirf.specs.Limits.{numbersAnEntry}
 use Rattle.dirf.specs.Edition.{edition2025}
 use Rattle.dirf.specs.Check.{Entry, numbersOf, Verdict, verdict}
 use Rattle.dirf.proofs.Demands.{demands2025}
@@ -15,7 +16,7 @@ use Rattle.checker.specs.Answers.{answerOf, tableAfter}
 use Rattle.checker.specs.Left.{Left}
 use Rattle.checker.proofs.check.Reads as check
 
-length-numbers : (t : List Entry) → length (numbersOf t) ≡ 4 * length t
+length-numbers : (t : List Entry) → length (numbersOf t) ≡ numbersAnEntry * length t
 unfolding numbersOf
 length-numbers [] = refl
 length-numbers (x ∷ t) = omega (arith, length-numbers t)
@@ -28,17 +29,17 @@ past front before i h =
     subst (λ i. getD (front ++ drop (length front) before) i 0 ≡ getD before i 0) at
     (getD-append-add front (drop (length front) before) j 0 ∙ getD-drop (length front) before j 0)
 
-left : (file : Text) (before : List ℕ) → let v = verdict edition2025 file (length before / 4) in Left file before (tableAfter v before) (answerOf v)
+left : (file : Text) (before : List ℕ) → let v = verdict edition2025 file (length before / numbersAnEntry) in Left file before (tableAfter v before) (answerOf v)
 unfolding answerOf tableAfter
 left file before =
-    let room : ℕ = length before / 4 in
+    let room : ℕ = length before / numbersAnEntry in
     let v : Verdict = verdict edition2025 file room in
     let count = demands2025 .counts file room in
-    let long : length (numbersOf (v .table)) ≡ 4 * length (v .table) = length-numbers (v .table) in
+    let long : length (numbersOf (v .table)) ≡ numbersAnEntry * length (v .table) = length-numbers (v .table) in
     record {
       entries = v .table;
       count = refl;
-      begins = take-at (numbersOf (v .table)) (drop (length (numbersOf (v .table))) before) (4 * length (v .table)) long;
+      begins = take-at (numbersOf (v .table)) (drop (length (numbersOf (v .table))) before) (numbersAnEntry * length (v .table)) long;
       accepted = λ q. count .when-accepted q .1 ∙ sym (count .when-accepted q .0);
       refused = count .when-refused;
       untouched = λ i h. past (numbersOf (v .table)) before i (omega (arith, long));

@@ -4,7 +4,7 @@ ghost use mathlib.Core.Path.{_≡_};
 ghost use Prim.Native.Nat.{_+_, _*_, _/_, _≤_, _<_};
 ghost use lib.ListN.{length, drop, getD};
 ghost use Rattle.dirf.specs.Bytes.{endsWith};
-ghost use Rattle.dirf.specs.Limits.{bar};
+ghost use Rattle.dirf.specs.Limits.{bar, numbersAnEntry};
 ghost use Rattle.dirf.specs.Edition.{edition2025};
 ghost use Rattle.dirf.specs.Lines.{clean};
 ghost use Rattle.dirf.specs.Check.{verdict};
@@ -13,6 +13,9 @@ ghost use Rattle.checker.specs.Answers.{answerOf, tableAfter, entryNumbe
 ghost use Rattle.checker.specs.State.{startState, above as aboveOf, heldAt, orderAt, belowOn, standsOn, seenOn, keyBefore, keyAfter, keyOn, declarantOf, keyPlaces, commitState};
 ghost use Rattle.layout.specs.Tables.{nameTable, rowTable, pfTable, pjTable};
 ghost use Rattle.checker.specs.Turn.{endOf, lineAt, Lent, Fits, haltAt, halt, orderStep, contentStep, countStep, placeStep, kindStep, recordStep, lineStep, turnOf};
+
+// Document 01: "The table has four 32-bit numbers a record".
+pub const NUMBERS_AN_ENTRY: usize = 4;
 
 // What the lines so far come to.
 pub struct State {
@@ -602,7 +605,7 @@ fn turn(
 // ---- the check
 
 // The numbers of an entry, in the table's order.
-fn entry_numbers(e: Entry) -> [u32; 4]
+fn entry_numbers(e: Entry) -> [u32; NUMBERS_AN_ENTRY]
     requires { ⌜ (e .start < 4294967296) × (e .len < 4294967296) ⌝ }
     ensures { λ r. ⌜ r ≡ entryNumbers e ⌝ }
 {
@@ -611,10 +614,10 @@ fn entry_numbers(e: Entry) -> [u32; 4]
 
 // Entry n of the table, from 0.
 fn put_entry(table: &mut [u32], n: u32, row: &[u32])
-    requires { ⌜ (n ≤ 65536) × ((4 * n + 4 ≤ length (now table)) × (4 ≤ length (now row))) ⌝ }
-    ensures { λ r. ⌜ now (table .exit) ≡ putEntry (now (table .entry)) (4 * n) (now (row .entry)) ⌝ }
+    requires { ⌜ (n ≤ 65536) × ((numbersAnEntry * n + numbersAnEntry ≤ length (now table)) × (numbersAnEntry ≤ length (now row))) ⌝ }
+    ensures { λ r. ⌜ now (table .exit) ≡ putEntry (now (table .entry)) (numbersAnEntry * n) (now (row .entry)) ⌝ }
 {
-    let i = 4 * (n as usize);
+    let i = NUMBERS_AN_ENTRY * (n as usize);
     let j = i + 1;
     let k = i + 2;
     let l = i + 3;
@@ -626,10 +629,11 @@ fn put_entry(table: &mut [u32], n: u32, row: &[u32])
 
 // The check: acceptance with a record table, or the first breach with the entries before it.
 pub fn check(file: &[u8], table: &mut [u32]) -> Answer
-    ensures answer { λ r. ⌜ r ≡ answerOf (verdict edition2025 (now (file .entry)) (length (now (table .entry)) / 4)) ⌝ }
-    ensures entries { λ r. ⌜ now (table .exit) ≡ tableAfter (verdict edition2025 (now (file .entry)) (length (now (table .entry)) / 4)) (now (table .entry)) ⌝ }
+    ensures answer { λ r. ⌜ r ≡ answerOf (verdict edition2025 (now (file .entry)) (length (now (table .entry)) / numbersAnEntry)) ⌝ }
+    ensures entries { λ r. ⌜ now (table .exit)
+        ≡ tableAfter (verdict edition2025 (now (file .entry)) (length (now (table .entry)) / numbersAnEntry)) (now (table .entry)) ⌝ }
 {
-    let room = table.len() / 4;
+    let room = table.len() / NUMBERS_AN_ENTRY;
     let names = layout::name_table();
     let rows = layout::row_table();
     let pf = layout::pf_table();

@@ -1,21 +1,15 @@
 -- What the desk program answers.
-use Prim.Native.Nat.{ℕ}
 use lib.Dec.{ltb}
 use lib.ListN.{length}
 use Rattle.dirf.specs.Bytes.{if_then_else_, Text}
+use Rattle.dirf.specs.Limits.{deskBytes, deskEntries}
 use Rattle.dirf.specs.Edition.{edition2025}
 use Rattle.dirf.specs.Check.{verdict}
 use Rattle.checker.specs.Answers.{answerOf}
 use Rattle.checker.specs.declared.Answer.{Answer}
 
 -- 01, "The desk program": "Over 65,536 bytes it prints `25 0 0 0`. Its table has 3,000 entries."
-abbrev pub bytesLimit : ℕ
-bytesLimit = 65536
-
-abbrev pub deskEntries : ℕ
-deskEntries = 3000
-
 unfoldable pub deskAnswer : Text → Answer
 deskAnswer file =
-    if ltb bytesLimit (length file) then record { number = 25; line = 0; field = 0; entries = 0 }
+    if ltb deskBytes (length file) then record { number = 25; line = 0; field = 0; entries = 0 }
     else answerOf (verdict edition2025 file deskEntries)

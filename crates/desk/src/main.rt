@@ -4,6 +4,11 @@ ghost use mathlib.Core.Path.{_≡_};
 ghost use Rattle.io.specs.Counts.{Counts};
 ghost use Rattle.desk.specs.Desk.{deskAnswer};
 
+// Document 01: "Over 65,536 bytes it prints `25 0 0 0`. Its table has 3,000 entries."
+const BYTES: usize = 65536;
+
+const ENTRIES: usize = 3000;
+
 // How reading went: whether a read failed, and how many bytes came.
 struct Got {
     failed: bool,
@@ -42,11 +47,11 @@ fn read_all(buf: &mut [u8]) -> Got
     }
 }
 
-// What the desk answers for a file: 25 over 65,536 bytes, else what the check answers with a table of 3,000 entries.
+// What the desk answers for a file: 25 for one that is too long, else what the check answers with the desk's table.
 fn desk_answer(file: &[u8]) -> Answer
     ensures { λ r. ⌜ r ≡ deskAnswer (now (file .entry)) ⌝ }
 {
-    if 65536 < file.len() {
+    if BYTES < file.len() {
         return Answer {
             number: 25,
             line: 0,
@@ -54,7 +59,7 @@ fn desk_answer(file: &[u8]) -> Answer
             entries: 0,
         };
     }
-    let mut table = [0u32; 12000];
+    let mut table = [0u32; ENTRIES * checker::NUMBERS_AN_ENTRY];
     checker::check(file, &mut table)
 }
 
@@ -71,7 +76,7 @@ fn print_answer(a: Answer) {
 
 // One byte more than the longest file that is checked, so that a longer one is seen to be longer.
 fn main() {
-    let mut buf = [0u8; 65537];
+    let mut buf = [0u8; BYTES + 1];
     let got = read_all(&mut buf);
     if got.failed {
         // nothing on standard output: nothing there may be taken for acceptance

@@ -17,7 +17,6 @@ use Rattle.dirf.specs.Rules.{keeps, first}
 use Rattle.dirf.specs.Tree.{Rec}
 use Rattle.dirf.specs.Order.{here, order, closed}
 use Rattle.dirf.specs.Check.{Verdict, refused, accepted, noBytesLeft, verdict}
-use Rattle.dirf.specs.Theorems.Breach.{Breach}
 use Rattle.dirf.specs.Theorems.Sound.{Sound}
 use Rattle.dirf.specs.Theorems.Answered.{recs, Right, LinesRight, Closed, Accepted, FirstBroken, Answer, accepts, unclosed, refuses}
 use Rattle.dirf.specs.Theorems.Answered.{Answered, Only, AcceptedExactly}
@@ -58,11 +57,7 @@ module _ (e : Edition) (sound : Sound e) where
     λ l. at-kept e room [] ps (λ os p qs s. right-exactly room (recs e [] os) p .1 (l os p qs s)),
   )
 
-  -- what is named first is a breach, so its number is neither 0 nor 1
-  pub broken-breach : (room : ℕ) (before : List Rec) (p : Piece) (n f : ℕ) → FirstBroken (here e room before p) n f order
-      → Breach (here e room before p) n f
-  broken-breach room before p n f b = tests-say e sound room before p n f .1 (broken-given b)
-
+  -- what is named first has a number that is neither 0 nor 1
   pub broken-number : (room : ℕ) (before : List Rec) (p : Piece) (n f : ℕ) → FirstBroken (here e room before p) n f order → 2 ≤ n
   broken-number room before p n f b = let g = broken-given b in leb-true 2 n (given-number (leb 2) (g .2) (every-in (numbersPass (leb 2)) (g .1) order-big))
 

@@ -114,14 +114,14 @@ leap-says y =
 month-of : (y m d : ℕ) → 1 ≤ d → d ≤ daysIn y m → InMonth y m d
 unfolding daysIn
 month-of y zero d a b = absurd (omega arith)
-month-of y (suc zero) d a b = long-month (search (it, on) depth 20) b
+month-of y (suc zero) d a b = long-month (search it depth 20) b
 month-of y (suc (suc zero)) d a b = go (isLeap y) refl b
   where
     go : (t : Bool) → isLeap y ≡ t → d ≤ (if t then 29 else 28) → InMonth y 2 d
     go true e b = leap-february refl (leap-says y .0 e) b
     go false e b = february refl b
 month-of y (suc (suc (suc zero))) d a b = long-month (search (it, on) depth 20) b
-month-of y (suc (suc (suc (suc zero)))) d a b = short-month (search (it, on) depth 20) b
+month-of y (suc (suc (suc (suc zero)))) d a b = short-month (search it depth 20) b
 month-of y (suc (suc (suc (suc (suc zero))))) d a b = long-month (search (it, on) depth 20) b
 month-of y (suc (suc (suc (suc (suc (suc zero)))))) d a b = short-month (search (it, on) depth 20) b
 month-of y (suc (suc (suc (suc (suc (suc (suc zero))))))) d a b = long-month (search (it, on) depth 20) b

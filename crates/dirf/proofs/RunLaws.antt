@@ -87,10 +87,6 @@ module _ (e : Edition) (room : ℕ) where
   kept-append before [] qs k l = l
   kept-append before (p ∷ ps) qs k l = (k .0, kept-append (recOf e before p ∷ before) ps qs (k .1) l)
 
-  pub kept-front : (before : List Rec) (ps qs : List Piece) → Kept before (ps ++ qs) → Kept before ps
-  kept-front before [] qs k = tt
-  kept-front before (p ∷ ps) qs k = (k .0, kept-front (recOf e before p ∷ before) ps qs (k .1))
-
 module _ (e : Edition) where
   pub recs-append : (before : List Rec) (ps qs : List Piece) → recs e before (ps ++ qs) ≡ recs e (recs e before ps) qs
   recs-append before [] qs = refl

@@ -12,7 +12,7 @@ use Rattle.dirf.specs.Layout.{layout2025}
 use Rattle.dirf.specs.Edition.{edition2025, rowsIn, rowsOf, edition-opens}
 use Rattle.dirf.specs.LineWriter.{sum}
 use Rattle.dirf.proofs.Bools.{and-left, and-right}
-use Rattle.dirf.specs.Tables.{longest, goesWith, RowsRight, KindsRight, Counted, count, largestOf}
+use Rattle.dirf.specs.Tables.{longest, goesWith, dateSized, RowsRight, KindsRight, Counted, count, largestOf}
 
 -- what holds of the rows of each group, and of no rows, holds of the rows of every kind
 in-group : (test : List Row → Bool) → test [] ≡ true → (gs : List (List ℕ × List Row)) → every (λ g. test (g .1)) gs ≡ true
@@ -32,6 +32,7 @@ rows-right =
       sizes = λ k. in-group (every (λ r. leb 1 (r .size) && leb (r .size) 150)) refl layout2025 refl k;
       lines = λ k. leb-true (longest (rowsOf edition2025 k)) 1024 (in-group (λ rs. leb (longest rs) 1024) refl layout2025 refl k);
       held = λ k. in-group (every (λ r. goesWith (r .holds) r)) refl layout2025 refl k;
+      dates = λ k. in-group (every (λ r. dateSized (r .format) r)) refl layout2025 refl k;
     }
 
 pub kinds-right : KindsRight edition2025

@@ -45,3 +45,10 @@ monthSize = 4
 -- the largest number of so many digits: 9,999,999,999,999 centavos, 9,999 tenths of a month
 abbrev pub largest : ℕ → ℕ
 largest size = 10 ^ size - 1
+
+-- 01, "The desk program": "Over 65,536 bytes it prints `25 0 0 0`. Its table has 3,000 entries."
+abbrev pub deskBytes : ℕ
+deskBytes = 65536
+
+abbrev pub deskEntries : ℕ
+deskEntries = 3000

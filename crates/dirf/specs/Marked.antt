@@ -5,7 +5,7 @@ use mathlib.Core.Bool.{true}
 use mathlib.Core.List.{List, [], _∷_, _++_}
 use lib.ListN.{length, getD, take, drop, set}
 use Rattle.dirf.specs.Bytes.{Text, bytes, every, same}
-use Rattle.dirf.specs.Limits.{LF, lineEnd}
+use Rattle.dirf.specs.Limits.{LF, lineEnd, deskEntries}
 use Rattle.dirf.specs.Row.{Row, row, N, fixed, optional, plain}
 use Rattle.dirf.specs.Layout.{respoRows, decpfRows}
 use Rattle.dirf.specs.Fields.{fieldOrder}
@@ -13,10 +13,6 @@ use Rattle.dirf.specs.Rules.{Found, keeps, breaks, askField}
 use Rattle.dirf.specs.Edition.{edition2025}
 use Rattle.dirf.specs.Check.{verdict}
 use Rattle.dirf.specs.Amounts.{readAmount}
-
--- 01, "The desk program": "Its table has 3,000 entries."
-abbrev pub deskRoom : ℕ
-deskRoom = 3000
 
 -- lines, each with its line end
 unfoldable pub fileOf : List Text → Text
@@ -50,7 +46,7 @@ numberFound (breaks number field) = number ∷ []
 
 -- number, line, field, entries; number and value; number
 unfoldable pub answer : Question → List ℕ
-answer (file s) = let v = verdict edition2025 s deskRoom in v .number ∷ v .line ∷ v .field ∷ length (v .table) ∷ []
+answer (file s) = let v = verdict edition2025 s deskEntries in v .number ∷ v .line ∷ v .field ∷ length (v .table) ∷ []
 answer (amount s) = readAmount s .number ∷ readAmount s .value ∷ []
 answer (fieldAs r s) = numberFound (askField 0 fieldOrder [] r s)
 

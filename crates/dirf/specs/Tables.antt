@@ -46,11 +46,18 @@ goesWith cpfOrCnpj r = digitsUpTo 14 r
 goesWith plain r = not (digitsUpTo 13 r || digitsFixed 2 r || digitsUpTo 9 r || digitsFixed 11 r || digitsFixed 14 r || digitsUpTo 14 r)
 goesWith (oneOf vs) r = every (λ v. eqb (length v) (r .size)) vs
 
+-- 01, "Fields": "D: year, month, day": four, two and two digits
+abbrev pub dateSized : Format → Row → Bool
+dateSized C r = true
+dateSized N r = true
+dateSized D r = isFixed (r .fill) && eqb (r .size) 8
+
 -- 01, "Fields": "Proved once over it: every size is from 1 to 150, and no record's longest line passes 1,024 bytes."
 pub record RowsRight (e : Edition) : Type 0 where
   pub sizes : (k : ℕ) → every (λ r. leb 1 (r .size) && leb (r .size) 150) (rowsOf e k) ≡ true
   pub lines : (k : ℕ) → longest (rowsOf e k) ≤ 1024
   pub held : (k : ℕ) → every (λ r. goesWith (r .holds) r) (rowsOf e k) ≡ true
+  pub dates : (k : ℕ) → every (λ r. dateSized (r .format) r) (rowsOf e k) ≡ true
 
 -- each kind is one thing: a record that stands alone, an IDREC, a block, a beneficiary, a value record, or left for later
 abbrev pub sorts : List ℕ

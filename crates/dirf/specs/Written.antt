@@ -19,8 +19,3 @@ writes (breaks number field) text = record { number = number; field = field; byt
 -- 01: "Bytes past the line stay", "a refusal leaves the output untouched": the output afterwards
 unfoldable pub outputAfter : Written → Text → Text
 outputAfter w output = w .bytes ++ drop (length (w .bytes)) output
-
--- to compute with this file: `unfolding written-opens`
-unfoldable pub written-opens : Unit {0}
-unfolding writes outputAfter
-written-opens = tt

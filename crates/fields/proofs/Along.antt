@@ -3,7 +3,6 @@ use Prim.Native.Nat.{ℕ, _+_, _≤_, _<_, min}
 use mathlib.Core.Path.{_≡_, refl, _∙_}
 use mathlib.Core.List.{List, [], _∷_, _++_, append-assoc, append-nil}
 use native.Mathlib.Numerals.{add-one}
-use native.Mathlib.Nat.{zero-add}
 use native.Mathlib.Omega.{arith}
 use lib.ListN.{length, getD, drop, drop-of-length-le}
 use lib.Seq.{drop-cons, drop-drop}
@@ -23,15 +22,6 @@ module _ (ns : List ℕ) (i at : ℕ) (p : Places) where
   pub along-end : length ns ≤ i → alongFrom (drop i ns) at p ≡ p
   unfolding alongFrom
   along-end h = rw (drop-of-length-le ns h)
-
-count-along : (ns : List ℕ) (at : ℕ) (p : Places) → alongFrom ns at p .count ≡ p .count + length ns
-unfolding alongFrom addPlace
-count-along [] at p = omega arith
-count-along (n ∷ ns) at p = omega (arith, count-along ns (min (at + n) 18446744073709551615) (addPlace p at n))
-
-pub along-count : (ns : List ℕ) → placesAlong ns .count ≡ length ns
-unfolding placesAlong noPlaces
-along-count ns = count-along ns 0 noPlaces ∙ zero-add (length ns)
 
 -- from byte `at` on: the cells so far, then the rest of the text cut; no start is capped inside a text
 module _ (text : Text) (small : length text ≤ 18446744073709551615) where

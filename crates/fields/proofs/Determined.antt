@@ -4,7 +4,6 @@ use Prim.Native.Nat.{ℕ}
 use denote.Ref.{RefT, now, ptr}
 use Rattle.fields.proofs.part.Reads as part
 use Rattle.fields.proofs.same.Reads as same
-use Rattle.fields.proofs.less.Reads as less
 use Rattle.fields.proofs.key_less.Reads as key-less
 use Rattle.fields.proofs.key_count.Reads as key-count
 use Rattle.fields.proofs.place_of.Reads as place-of
@@ -46,9 +45,6 @@ field-one κs a x y s t p q = by-parts x y p q
 -- where a contract is one equation for the result, two results are equal by way of what it names
 pub same-one : One same.Post
 same-one κs a x y s t p q = p ∙ sym q
-
-pub less-one : One less.Post
-less-one κs a x y s t p q = p ∙ sym q
 
 pub key-less-one : One key-less.Post
 key-less-one κs a x y s t p q = p ∙ sym q

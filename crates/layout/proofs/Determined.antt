@@ -9,9 +9,6 @@ use Rattle.layout.proofs.kind_of.Reads as kind-of
 use Rattle.layout.proofs.field_count.Reads as field-count
 use Rattle.layout.proofs.row_at.Reads as row-at
 use Rattle.layout.proofs.may_hold.Reads as may-hold
-use Rattle.layout.proofs.block_of.Reads as block-of
-use Rattle.layout.proofs.is_block.Reads as is-block
-use Rattle.layout.proofs.is_beneficiary.Reads as is-beneficiary
 use Rattle.layout.proofs.is_later.Reads as is-later
 use Rattle.layout.proofs.is_value.Reads as is-value
 use Rattle.layout.proofs.is_base.Reads as is-base
@@ -40,15 +37,6 @@ row-at-one κs a x y s t p q = p ∙ sym q
 
 pub may-hold-one : One may-hold.Post
 may-hold-one κs a x y s t p q = p ∙ sym q
-
-pub block-of-one : One block-of.Post
-block-of-one κs a x y s t p q = p ∙ sym q
-
-pub is-block-one : One is-block.Post
-is-block-one κs a x y s t p q = p ∙ sym q
-
-pub is-beneficiary-one : One is-beneficiary.Post
-is-beneficiary-one κs a x y s t p q = p ∙ sym q
 
 pub is-later-one : One is-later.Post
 is-later-one κs a x y s t p q = p ∙ sym q

@@ -3,7 +3,7 @@
 ghost use mathlib.Core.Path.{_≡_};
 ghost use Prim.Native.Nat.{_+_};
 ghost use denote.Ref.{ptr};
-ghost use Rattle.dirf.specs.Kinds.{isLater, isValue, isBlock, isBeneficiary};
+ghost use Rattle.dirf.specs.Kinds.{isLater, isValue};
 ghost use Rattle.dirf.specs.Edition.{edition2025, kindIn, isBase};
 ghost use Rattle.dirf.specs.Tree.{blockOf};
 ghost use Rattle.layout.specs.Tables.{nameIn, nameStart, namesIn, countIn, yesIn, holdsIn, nameTable, rowTable, pfTable, pjTable};
@@ -453,7 +453,7 @@ pub fn may_hold(pf: &[[u8; 74]; 74], pj: &[[u8; 74]; 74], d: u32, h: u32, u: u32
 }
 
 // What an IDREC must belong to for a beneficiary to stand below it.
-pub fn block_of(d: u32, k: u32) -> u32
+fn block_of(d: u32, k: u32) -> u32
     ensures { λ r. ⌜ r ≡ blockOf d k ⌝ }
 {
     match k {
@@ -462,24 +462,6 @@ pub fn block_of(d: u32, k: u32) -> u32
         52 | 54 => 51,
         56 => 55,
         _ => 0,
-    }
-}
-
-pub fn is_block(k: u32) -> bool
-    ensures { λ r. ⌜ r ≡ isBlock k ⌝ }
-{
-    match k {
-        48 | 51 | 55 | 59 => true,
-        _ => false,
-    }
-}
-
-pub fn is_beneficiary(k: u32) -> bool
-    ensures { λ r. ⌜ r ≡ isBeneficiary k ⌝ }
-{
-    match k {
-        6 | 44 | 49..=50 | 52 | 54 | 56 | 60 | 62 => true,
-        _ => false,
     }
 }
 

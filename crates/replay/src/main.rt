@@ -8,7 +8,6 @@ use rules::MonthRead;
 use rules::MonthTenths;
 use writer::NumberWritten;
 ghost use Prim.Native.Nat.{_≤_, _<_};
-ghost use lib.ListN.{length};
 ghost use Rattle.io.specs.Counts.{Counts};
 
 // A number out of a case, or none where the case is cut off.
@@ -213,7 +212,7 @@ fn print_bytes(out: &[u8], count: usize) {
 fn replay_check(file: &[u8], table: &mut [u32]) {
     fill_numbers(table);
     let a = checker::check(file, table);
-    let count = 4 * (a.entries as usize);
+    let count = checker::NUMBERS_AN_ENTRY * (a.entries as usize);
     print_first(a.number as u64);
     print_next(a.line as u64);
     print_next(a.field as u64);

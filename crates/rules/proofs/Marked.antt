@@ -7,34 +7,32 @@ use Rattle.dirf.specs.Bytes.{Text, bytes, bytes-opens}
 use Rattle.dirf.specs.Numbers.{numbers-opens}
 use Rattle.dirf.specs.Fields.{fieldOrder, fields-opens}
 use Rattle.dirf.specs.Rules.{askField, rules-opens}
-use Rattle.dirf.specs.Amounts.{readAmount, amounts-opens}
+use Rattle.dirf.specs.Amounts.{Reading, readAmount, amounts-opens}
 use Rattle.dirf.specs.Theorems.Plain.{_∈_}
 use Rattle.dirf.proofs.Lists.{Each, none, _also_, of-each}
 use Rattle.layout.specs.declared.Row.{Row}
 use Rattle.layout.specs.Tables.{formatOf, fillOf, needOf, holdsOf, rowOf}
 use Rattle.layout.specs.Codes.{rowSaid}
-use Rattle.rules.specs.declared.AmountRead.{AmountRead}
-use Rattle.rules.specs.declared.AmountRead.the-variants.{Value, Refused}
-use Rattle.rules.specs.Findings.{numberOf, amountAnswer}
+use Rattle.rules.specs.Findings.{numberOf, amountSays}
 use Rattle.rules.proofs.read_amount.Reads as read-amount
 use Rattle.rules.proofs.field_rule.Reads as field-rule
 
--- M9 and M10: a field, and what the amount reader answers
-abbrev pub amounts : List (Text × AmountRead)
+-- M9 and M10: a field, and the number and the value that the amount reader answers
+abbrev pub amounts : List (Text × Reading)
 amounts =
-    (bytes "0", Refused 16) ∷
-    (bytes "1", Value (record { 0 = 1 })) ∷
-    (bytes "9999999999999", Value (record { 0 = 9999999999999 })) ∷
-    (bytes "99999999999999", Refused 15) ∷
+    (bytes "0", record { number = 16; value = 0 }) ∷
+    (bytes "1", record { number = 0; value = 1 }) ∷
+    (bytes "9999999999999", record { number = 0; value = 9999999999999 }) ∷
+    (bytes "99999999999999", record { number = 15; value = 0 }) ∷
     []
 
-answers : Each (λ (x : Text × AmountRead). amountAnswer (readAmount (x .0)) ≡ x .1) amounts
-unfolding bytes-opens numbers-opens fields-opens rules-opens amounts-opens amountAnswer
+answers : Each (λ (x : Text × Reading). readAmount (x .0) ≡ x .1) amounts
+unfolding bytes-opens numbers-opens fields-opens rules-opens amounts-opens
 answers = refl also refl also refl also refl also none
 
-pub amounts-marked : (κs : _) (a : _) (r : _) (s : _) → read-amount.Post κs a r s → (x : Text × AmountRead) → x ∈ amounts
-    → now (a .0) ≡ x .0 → r ≡ x .1
-amounts-marked κs a r s e x m f = e ∙ ap (λ t. amountAnswer (readAmount t)) f ∙ of-each answers x m
+pub amounts-marked : (κs : _) (a : _) (r : _) (s : _) → read-amount.Post κs a r s → (x : Text × Reading) → x ∈ amounts
+    → now (a .0) ≡ x .0 → amountSays r ≡ x .1
+amounts-marked κs a r s e x m f = e .0 ∙ ap readAmount f ∙ of-each answers x m
 
 -- M11 and M12: a row, a field and the number given: field 9 of DECPF, a date, and field 4 of RESPO, an area code
 abbrev pub dateRow : Row

@@ -1,21 +1,17 @@
--- A number read, as an answer of either reader: its value, or its refusal.
-use Prim.Native.Nat.{ℕ}
-use mathlib.Core.Path.{_≡_, sym, ap, _∙_}
-use lib.Dec.{eqb}
-use borrow.Author.Tests.{eq-eqb, ne-eqb}
-use Rattle.dirf.specs.Bytes.{if_then_else_}
-use Rattle.dirf.specs.Amounts.{Reading}
+-- What either reader answers of a number read says the reading.
+use mathlib.Core.Path.{_≡_, ap}
+use Rattle.dirf.specs.Bytes.{Text}
+use Rattle.dirf.specs.Rules.{Found, keeps, breaks}
+use Rattle.dirf.specs.Amounts.{Reading, readAs}
 use Rattle.rules.specs.declared.NumberRead.{NumberRead}
 use Rattle.rules.specs.Findings.{numberRead}
 
-module _ {A : Type 0} (value refused : ℕ → A) (x : Reading) (n : NumberRead) (e : n ≡ numberRead x) where
-  number : n .number ≡ x .number
-  unfolding numberRead
-  number = ap (λ r. r .number) e
+pub value-said : (x : Reading) {n : NumberRead} → n ≡ numberRead x → n .number ≡ 0 → record { number = 0; value = n .value } ≡ x
+unfolding numberRead
+value-said x e z = rw (← z) (ap (λ (n : NumberRead). record { number = n .number; value = n .value }) e)
 
-  pub read-value : n .number ≡ 0 → value (n .value) ≡ (if eqb (x .number) 0 then value (x .value) else refused (x .number))
-  unfolding numberRead
-  read-value z = rw (eq-eqb (x .number) 0 (sym number ∙ z)) (ap (λ r. value (r .value)) e)
-
-  pub read-refused : (n .number ≡ 0 → ⊥) → refused (n .number) ≡ (if eqb (x .number) 0 then value (x .value) else refused (x .number))
-  read-refused h = rw (ne-eqb (x .number) 0 (λ z. h (number ∙ z))) (ap refused number)
+pub refusal-said : (f : Found) (s : Text) {n : NumberRead} → n ≡ numberRead (readAs f s) → (n .number ≡ 0 → ⊥)
+    → record { number = n .number; value = 0 } ≡ readAs f s
+unfolding numberRead readAs
+refusal-said keeps s e h = absurd (h (ap (λ n. n .number) e))
+refusal-said (breaks number field) s e h = ap (λ n. record { number = n .number; value = 0 }) e

@@ -3,9 +3,8 @@ use Prim.Native.Nat.{ℕ, _≤_}
 use mathlib.Core.Path.{_≡_}
 use mathlib.Core.Bool.{Bool, true, _&&_, not}
 use mathlib.Core.List.{List, [], _∷_}
-use lib.Dec.{eqb}
 use lib.ListN.{length}
-use Rattle.dirf.specs.Bytes.{if_then_else_, Text, bytes, every, isIn, same, lookup}
+use Rattle.dirf.specs.Bytes.{Text, bytes, every, isIn, same, lookup}
 use Rattle.dirf.specs.Kinds.{DECPF}
 use Rattle.dirf.specs.Lines.{field}
 use Rattle.dirf.specs.Row.{Row as FieldRow}
@@ -65,12 +64,15 @@ pub record FilledRight (s : Text) (r : Row) : Type 0 where
 unfoldable pub numberRead : Reading → NumberRead
 numberRead r = record { number = r .number; value = r .value }
 
--- 01, "The amount reader": a reading as the answer of the amount reader, and of the month reader
-unfoldable pub amountAnswer : Reading → AmountRead
-amountAnswer r = if eqb (r .number) 0 then amount.Value (record { 0 = r .value }) else amount.Refused (r .number)
+-- 01: "Where an answer is an enum, a definition gives this paper's number and values for each of its cases." A value has number 0, and
+-- the readers "refuse with 14, 15 or 16 .., value 0"
+abbrev pub amountSays : AmountRead → Reading
+amountSays (amount.Value c) = record { number = 0; value = c .0 }
+amountSays (amount.Refused n) = record { number = n; value = 0 }
 
-unfoldable pub monthAnswer : Reading → MonthRead
-monthAnswer r = if eqb (r .number) 0 then month.Value (record { 0 = r .value }) else month.Refused (r .number)
+abbrev pub monthSays : MonthRead → Reading
+monthSays (month.Value m) = record { number = 0; value = m .0 }
+monthSays (month.Refused n) = record { number = n; value = 0 }
 
 -- the field that the first broken condition of DECPF names, 0 where none is broken
 unfoldable pub conditionField : List Text → ℕ

@@ -16,7 +16,7 @@ ghost use Rattle.dirf.specs.Amounts.{readNumber, readAmount, readMonths};
 ghost use Rattle.fields.specs.Places.{cellsAt};
 ghost use Rattle.layout.specs.Tables.{formatOf, fillOf, holdsOf, rowsIn};
 ghost use Rattle.layout.specs.Codes.{rowSaid};
-ghost use Rattle.rules.specs.Findings.{numberOf, findingOf, contentsFound, onlyByte, amountAnswer, monthAnswer};
+ghost use Rattle.rules.specs.Findings.{numberOf, findingOf, contentsFound, onlyByte, amountSays, monthSays};
 ghost use Rattle.rules.specs.Findings.{letterOf, FilledRight, numberRead, conditionField, deathUnstated};
 
 // A number and a field: the first breach of a record's fields, 0 and 0 where there is none.
@@ -343,9 +343,10 @@ fn read_number(s: &[u8], row: Row) -> NumberRead
     }
 }
 
-// An amount in centavos: 0 for the empty field, else refused with 14, 15 or 16.
+// An amount in centavos: 0 for the empty field, else refused with 14, 15 or 16. Number 0 is a value, never a refusal.
 pub fn read_amount(s: &[u8]) -> AmountRead
-    ensures { λ r. ⌜ r ≡ amountAnswer (readAmount (now (s .entry))) ⌝ }
+    ensures says { λ r. ⌜ amountSays r ≡ readAmount (now (s .entry)) ⌝ }
+    ensures numbered { λ r. ⌜ (r ≡ AmountRead.Refused 0 → ⊥) ⌝ }
 {
     let row = Row {
         format: b'N',
@@ -363,7 +364,8 @@ pub fn read_amount(s: &[u8]) -> AmountRead
 
 // A month count in tenths of a month: 0 for the empty field, else refused with 14, 15 or 16.
 pub fn read_months(s: &[u8]) -> MonthRead
-    ensures { λ r. ⌜ r ≡ monthAnswer (readMonths (now (s .entry))) ⌝ }
+    ensures says { λ r. ⌜ monthSays r ≡ readMonths (now (s .entry)) ⌝ }
+    ensures numbered { λ r. ⌜ (r ≡ MonthRead.Refused 0 → ⊥) ⌝ }
 {
     let row = Row {
         format: b'N',
@@ -439,7 +441,7 @@ fn decpf_condition(bytes: &[u8], p: Places) -> u32
 }
 
 // 19: the lowest field at which a condition is broken.
-pub fn conditions_found(bytes: &[u8], p: Places, k: u32) -> Finding
+fn conditions_found(bytes: &[u8], p: Places, k: u32) -> Finding
     ensures { λ r. ⌜ r ≡ findingOf (askConditions 19 conditionOrder k (cellsAt (now (bytes .entry)) p)) ⌝ }
 {
     if k != 3 {

@@ -1,2 +1,1 @@
-mod Readings
 pub mod Determined

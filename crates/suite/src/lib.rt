@@ -6,7 +6,7 @@ ghost use Rattle.dirf.specs.Edition.{edition2025};
 ghost use Rattle.dirf.specs.Check.{verdict};
 ghost use Rattle.dirf.specs.FieldReader.{fieldThere, fieldStart, fieldLength};
 ghost use Rattle.dirf.specs.Amounts.{readAmount};
-ghost use Rattle.suite.specs.Amounts.{numberIn, valueIn};
+ghost use Rattle.rules.specs.Findings.{amountSays};
 
 // The number that the check of a file gives with room for so many entries.
 #[no_mangle]
@@ -60,7 +60,7 @@ pub extern "C" fn decklesail_field_length(line: &[u8], k: usize) -> usize
 }
 
 fn number_in(a: AmountRead) -> u32
-    ensures { λ r. ⌜ r ≡ numberIn a ⌝ }
+    ensures { λ r. ⌜ r ≡ amountSays a .number ⌝ }
 {
     match a {
         AmountRead::Value(_) => 0,
@@ -69,7 +69,7 @@ fn number_in(a: AmountRead) -> u32
 }
 
 fn value_in(a: AmountRead) -> u64
-    ensures { λ r. ⌜ r ≡ valueIn a ⌝ }
+    ensures { λ r. ⌜ r ≡ amountSays a .value ⌝ }
 {
     match a {
         AmountRead::Value(c) => c.0,
