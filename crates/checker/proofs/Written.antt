@@ -1,7 +1,6 @@
 -- What the check leaves behind is what specs/Left says, whatever the file and the table: told of the contract of `check`.
-use Prim.Native.Nat.{ℕ, suc, _+_, _-_, _*_, _/_, _≤_}
-use mathlib.Core.Path.{_≡_, refl, sym, ap, _∙_, subst}
-use mathlib.Core.Bool.{Bool, true, false}
+use Prim.Native.Nat.{ℕ, _+_, _-_, _*_, _/_, _≤_}
+use mathlib.Core.Path.{_≡_, refl, sym, _∙_, subst}
 use mathlib.Core.List.{List, [], _∷_, _++_}
 use native.Mathlib.Omega.{arith}
 use lib.ListN.{length, getD, drop}
@@ -29,7 +28,8 @@ past front before i h =
     subst (λ i. getD (front ++ drop (length front) before) i 0 ≡ getD before i 0) at
     (getD-append-add front (drop (length front) before) j 0 ∙ getD-drop (length front) before j 0)
 
-left : (file : Text) (before : List ℕ) → let v = verdict edition2025 file (length before / numbersAnEntry) in Left file before (tableAfter v before) (answerOf v)
+left : (file : Text) (before : List ℕ)
+    → let v = verdict edition2025 file (length before / numbersAnEntry) in Left file before (tableAfter v before) (answerOf v)
 unfolding answerOf tableAfter
 left file before =
     let room : ℕ = length before / numbersAnEntry in

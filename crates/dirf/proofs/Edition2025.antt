@@ -1,7 +1,7 @@
 -- The edition of 2025 is sound: computed tests over its tables, and four lines that close a file.
 use Prim.Native.Nat.{ℕ, suc, _≤_, _<_}
 use mathlib.Core.Path.{_≡_, refl, sym, ap, _∙_}
-use mathlib.Core.Bool.{Bool, true, false, _&&_, _||_, not, true≢false}
+use mathlib.Core.Bool.{Bool, true, false, _||_, not, true≢false}
 use mathlib.Core.Logic.{⊎-elim}
 use mathlib.Core.List.{List, [], _∷_}
 use native.Mathlib.Omega.{arith}
@@ -77,12 +77,14 @@ below-says : (test : ℕ → List ℕ → Bool) → ((h : ℕ) → test h [] ≡
     → (d h : ℕ) → test h (lookup [] (below2025 d) h) ≡ true
 unfolding below2025
 below-says test none pf pj d h =
-    if-cases (λ t. test h (lookup [] t h) ≡ true) (eqb d DECPF) (λ _. in-table test none underDECPF pf h) (λ _. in-table test none underDECPJ pj h)
+    if-cases (λ t. test h (lookup [] t h) ≡ true) (eqb d DECPF) (λ _. in-table test none underDECPF pf h)
+    (λ _. in-table test none underDECPJ pj h)
 
 nested2025 : (d h k : ℕ) → isIn k (lookup [] (below2025 d) h) ≡ true → Nested h k
 unfolding bytes-opens kinds-opens asks nests level
 nested2025 d h k m =
-    nested-of h k (every-in (nests h) (isIn-says k (lookup [] (below2025 d) h) .0 m) (below-says (λ h ks. every (nests h) ks) (λ h. refl) refl refl d h))
+    nested-of h k
+    (every-in (nests h) (isIn-says k (lookup [] (below2025 d) h) .0 m) (below-says (λ h ks. every (nests h) ks) (λ h. refl) refl refl d h))
 
 -- the order of kind numbers is the order of the lists, but below a beneficiary
 ordered2025 : (d h : ℕ) → isBeneficiary h ≡ false → rising (lookup [] (below2025 d) h) ≡ true

@@ -146,7 +146,8 @@ module _ (e : Edition) where
     unfolding after
     line-ended =
         ap (λ s. take 2 (drop (startAt t n + lengthAt t n) s)) (whole ∙ sym (append-assoc (textOf os) (p .body) after))
-        ∙ ap (take 2) (drop-at (textOf os ++ p .body) after (startAt t n + lengthAt t n) (omega (arith, length-append (textOf os) (p .body), starts, lasts)))
+        ∙ ap (take 2) (drop-at (textOf os ++ p .body) after (startAt t n + lengthAt t n)
+        (omega (arith, length-append (textOf os) (p .body), starts, lasts)))
 
     line-nth : Nth (pieces file) n (wholeLine (bytesAt file t n))
     line-nth =
@@ -160,7 +161,8 @@ first-start [] h = absurd (omega arith)
 first-start (r ∷ []) h = ap (λ x. x .start) (entry-last r [])
 first-start (r ∷ x ∷ rs) h = ap (λ y. y .start) (entry-earlier r (x ∷ rs) 1 (omega arith)) ∙ first-start (x ∷ rs) (omega arith)
 
-next-start : (rs : List Rec) (n : ℕ) → suc n ≤ length rs → 1 ≤ n → startAt (tableOf rs) (suc n) ≡ startAt (tableOf rs) n + lengthAt (tableOf rs) n + 2
+next-start : (rs : List Rec) (n : ℕ) → suc n ≤ length rs → 1 ≤ n
+    → startAt (tableOf rs) (suc n) ≡ startAt (tableOf rs) n + lengthAt (tableOf rs) n + 2
 unfolding entryOf bytesOf
 next-start [] n h = absurd (omega arith)
 next-start (r ∷ []) n h = λ a. absurd (omega arith)

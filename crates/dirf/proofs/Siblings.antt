@@ -113,16 +113,6 @@ siblings-placed e d k before c [] s = tt
 siblings-placed e d k before c (o ∷ os) s =
     if-cases (λ (q : Place). Siblings before (q .last) (q .up)) (mayHold e d (o .kind) (kindOfFirst os) k) (λ _. s) (λ _. siblings-placed e d k before (some o) os (s .1))
 
--- what opened last at a place was read before
-last-bound : (e : Edition) (d k : ℕ) {before : List Rec} {n l : ℕ} (c : Option Open) (os : List Open) → OpenRecords before n l os
-    → n ≤ suc (length before)
-    → ((o : Open) → c ≡ some o → o .number ≤ length before) → (o : Open) → placeIn e d c os k .last ≡ some o → o .number ≤ length before
-unfolding placeIn
-last-bound e d k c [] h small bound = bound
-last-bound e d k {before} c (o ∷ os) (innermost a b known h) small bound =
-    if-cases (λ (q : Place). (x : Open) → q .last ≡ some x → x .number ≤ length before) (mayHold e d (o .kind) (kindOfFirst os) k) (λ _. bound)
-    (λ _. last-bound e d k (some o) os h (omega arith) (λ x q. let w : o ≡ x = cc in omega (arith, ap (λ (y : Open). y .number) w)))
-
 -- a kind that is not out of order behind k, and is not k, is not out of order behind what came before k; and is not that either
 pub order-on : (c : Option Open) (k j : ℕ) → inOrder c k ≡ true → k < j → inOrder c j ≡ true
 unfolding inOrder

@@ -6,20 +6,20 @@ use mathlib.Core.Logic.{_⊎_, inl, inr, ⊎-elim}
 use mathlib.Core.List.{List, [], _∷_}
 use mathlib.Core.Option.{Option, none, some}
 use native.Mathlib.Omega.{arith}
-use lib.Dec.{eqb, ltb, leb}
+use lib.Dec.{eqb, ltb}
 use lib.ListN.{length, getD}
 use borrow.Author.Tests.{eqb-true, eq-eqb, ltb-true, ltb-false, le-leb, not-true}
 use Rattle.dirf.specs.Bytes.{every, isIn, lookup, bytes-opens}
 use Rattle.dirf.specs.Kinds.{Dirf, RESPO, IDREC, SCP, FIMDirf, declarants, alone, blocks, withIDREC, isValue, kinds-opens}
 use Rattle.dirf.specs.Edition.{Edition}
 use Rattle.dirf.specs.Tree.{Rec, Open, opening, declarant, blockOf, mayHold, kindOfFirst, numberOfFirst, place, parentOf, inOrder}
-use Rattle.dirf.specs.Tree.{isPlaced, mayStand, opened}
+use Rattle.dirf.specs.Tree.{isPlaced, mayStand}
 use Rattle.dirf.specs.Keys.{lastUnder, isSome}
 use Rattle.dirf.specs.Check.{Entry, entryOf, tableOf}
 use Rattle.dirf.specs.Theorems.Plain.{_∈_}
 use Rattle.dirf.specs.Theorems.Sound.{level, Nested, Sound}
-use Rattle.dirf.specs.Theorems.Whose.{entryAt, kindAt, parentAt, IsLine, BeneficiaryOrValue, IsOf, Sort, stands-alone, a-block, an-IDREC}
-use Rattle.dirf.specs.Theorems.Whose.{a-beneficiary, a-value-record, Owned, Whose}
+use Rattle.dirf.specs.Theorems.Whose.{entryAt, kindAt, parentAt, IsLine, BeneficiaryOrValue, IsOf, Owned, Whose}
+use Rattle.dirf.specs.Theorems.Whose.{Sort, stands-alone, a-block, an-IDREC, a-beneficiary, a-value-record}
 use Rattle.dirf.proofs.Bools.{and-left, and-right, or-cases, if-cases}
 use Rattle.dirf.proofs.Says.{isIn-says, it, on}
 use Rattle.dirf.proofs.Lists.{every-in, every-at}
@@ -38,12 +38,14 @@ own-block e d h u k holds i =
     sym (eqb-true (blockOf d k) u (rw (eq-eqb h IDREC i) at (and-right (isIn k (lookup [] (e .below d) h)) _ holds)))
 
 -- the record of a line of a table is one of those read
-read-of : (before : List Rec) (m : ℕ) → m ≤ length before → 1 ≤ m
-    → (r : Rec) × (r ∈ before) × Under (parentAt (tableOf before) m) (kindAt (tableOf before) m) r
+abbrev ReadAs : List Rec → ℕ → Type 0
+ReadAs before m = (r : Rec) × (r ∈ before) × Under (parentAt (tableOf before) m) (kindAt (tableOf before) m) r
+
+read-of : (before : List Rec) (m : ℕ) → m ≤ length before → 1 ≤ m → ReadAs before m
 unfolding entryOf
 read-of [] m = λ h a. absurd (omega arith)
 read-of (r ∷ rs) m =
-    line-cases (λ m. 1 ≤ m → (x : Rec) × (x ∈ (r ∷ rs)) × Under (parentAt (tableOf (r ∷ rs)) m) (kindAt (tableOf (r ∷ rs)) m) x) (length rs) m
+    line-cases (λ m. 1 ≤ m → ReadAs (r ∷ rs) m) (length rs) m
     (λ h a.
     let x = read-of rs m h a in
     let same = entry-earlier r rs m h in
@@ -82,15 +84,20 @@ module _ (e : Edition) (sound : Sound e) where
       go (o ∷ outer) holds = absurd (omega (arith, nests e (declarant before) k sound (o .kind) (kindOfFirst outer) holds .deeper))
 
   -- a record that stands alone is one of the opening lines, or FIMDirf
+  abbrev Opens : List Rec → ℕ → Type 0
+  Opens before k = (length before < 3) × (isIn k (getD opening (length before) []) ≡ true)
+
   stands-opening : {before : List Rec} → History e before → (k : ℕ) → level k ≡ 0 → mayStand e before k ≡ true
-      → ((length before < 3) × (isIn k (getD opening (length before) []) ≡ true)) ⊎ (k ≡ FIMDirf)
+      → Opens before k ⊎ (k ≡ FIMDirf)
   unfolding opening mayStand isPlaced
   stands-opening {before} h k flat =
-      if-cases (λ t. t ≡ true → ((length before < 3) × (isIn k (getD opening (length before) []) ≡ true)) ⊎ (k ≡ FIMDirf)) (ltb (length before) 3)
+      if-cases (λ t. t ≡ true → Opens before k ⊎ (k ≡ FIMDirf)) (ltb (length before) 3)
       (λ few i. inl (ltb-true (length before) 3 few, i))
       (λ _ i.
       ⊎-elim (λ f. inr (eqb-true k FIMDirf f))
-      (λ p. absurd (omega (arith, ap length (unheld h k flat), ltb-true 0 (length (place e before k .up)) (and-left _ (inOrder (place e before k .last) k) p))))
+      (λ p.
+      let held = ltb-true 0 (length (place e before k .up)) (and-left _ (inOrder (place e before k .last) k) p) in
+      absurd (omega (arith, ap length (unheld h k flat), held)))
       (or-cases (eqb k FIMDirf) (isPlaced (place e before k) k) i))
 
   -- the declarant is read as line 3
@@ -114,7 +121,11 @@ module _ (e : Edition) (sound : Sound e) where
     abbrev t : List Entry
     t = tableOf all
 
-    -- line n was read after some records: it may stand there, and the table begins with their entries
+    -- the table begins with the entries of these records
+    abbrev Begins : List Rec → Type 0
+    Begins before = (m : ℕ) → m ≤ length before → entryAt t m ≡ entryAt (tableOf before) m
+
+    -- line n was read after some records, and may stand there
     record Read (n : ℕ) : Type 0 where
       before : List Rec
       this : Rec
@@ -122,14 +133,13 @@ module _ (e : Edition) (sound : Sound e) where
       history : History e before
       stands : mayStand e before (this .kind) ≡ true
       parent : this .parent ≡ parentOf e before (this .kind)
-      earlier : (m : ℕ) → m ≤ length before → entryAt t m ≡ entryAt (tableOf before) m
+      earlier : Begins before
       entry : entryAt t n ≡ entryOf this before
 
-    read : {before : List Rec} → History e before → ((m : ℕ) → m ≤ length before → entryAt t m ≡ entryAt (tableOf before) m)
-        → (n : ℕ) → n ≤ length before → 1 ≤ n → Read n
+    read : {before : List Rec} → History e before → Begins before → (n : ℕ) → n ≤ length before → 1 ≤ n → Read n
     read start same n = λ b a. absurd (omega arith)
     read (next {r = r} {before = before} stands parent hist) same n =
-        let same′ : (m : ℕ) → m ≤ length before → entryAt t m ≡ entryAt (tableOf before) m = λ m x. same m (omega arith) ∙ entry-earlier r before m x in
+        let same′ : Begins before = λ m x. same m (omega arith) ∙ entry-earlier r before m x in
         line-cases (λ n. 1 ≤ n → Read n) (length before) n (read hist same′ n)
         (λ _.
         record {
@@ -181,7 +191,8 @@ module _ (e : Edition) (sound : Sound e) where
         c = place e before k .last
 
         go : (up : List Open) → place e before k .up ≡ up → OpenRecords before (suc (length before)) (level k) up
-            → Holder e (declarant before) k up → Siblings before c up → (3 ≤ length before) × (0 < length up) × (inOrder c k ≡ true) → Held n
+            → Holder e (declarant before) k up → Siblings before c up
+            → (3 ≤ length before) × (0 < length up) × (inOrder c k ≡ true) → Held n
         go [] u known holds siblings h = absurd (omega (arith, h .1))
         go (o ∷ outer) u (innermost a b known rest) holds siblings h =
             record {
@@ -257,7 +268,8 @@ module _ (e : Edition) (sound : Sound e) where
     -- and no block stands between: its order among the declarant's records would be broken
     no-block : (n : ℕ) → IsLine t n → kindAt t n ≡ IDREC → (m : ℕ) → parentAt t n < m → m < n → kindAt t m ∈ blocks → ⊥
     unfolding entryOf numberOfFirst inOrder
-    no-block n l i m over under block = ⊎-elim inside (λ q. read-later (y .last) (y .o) k (y .siblings .0) (sym (y .parent) ∙ q) (y .ordered) later) (idrec-holder n l i)
+    no-block n l i m over under block =
+        ⊎-elim inside (λ q. read-later (y .last) (y .o) k (y .siblings .0) (sym (y .parent) ∙ q) (y .ordered) later) (idrec-holder n l i)
       where
         y : Held n
         y = held n l (idrec-deep i)
@@ -329,8 +341,9 @@ module _ (e : Edition) (sound : Sound e) where
         go : (b : Bool) → ltb 0 (level k) ≡ b → Sort k
         go true q = sort-below k (ltb-true 0 (level k) q)
         go false q =
+            let flat : level k ≡ 0 = omega (arith, ltb-false 0 (level k) q) in
             stands-alone (isIn-says k alone .0
-            (⊎-elim (λ o. opens (o .1)) (ap (λ k. isIn k alone)) (stands-opening (x .history) k (omega (arith, ltb-false 0 (level k) q)) (x .stands))))
+            (⊎-elim (λ o. opens (o .1)) (ap (λ k. isIn k alone)) (stands-opening (x .history) k flat (x .stands))))
 
     -- what stands alone is nobody's
     nobodys : (n : ℕ) → IsLine t n → kindAt t n ∈ alone → parentAt t n ≡ 0

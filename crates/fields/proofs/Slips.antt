@@ -1,8 +1,8 @@
 -- 01, "Where earlier checkers went wrong": "Comparing process numbers as numbers, or a CPF without its zeros." No edit of `key_less` is
 -- such a program and keeps its shape. So this stands in for one: where such a program answers otherwise, the contract excludes its answer.
 use Prim.Native.Nat.{ℕ}
-use mathlib.Core.Path.{_≡_, refl, sym, ap, _∙_}
-use mathlib.Core.Bool.{Bool, true, false, not, true≢false}
+use mathlib.Core.Path.{_≡_, sym, _∙_}
+use mathlib.Core.Bool.{Bool, true≢false}
 use mathlib.Core.Logic.{_≢_}
 use mathlib.Core.List.{[], _∷_}
 use lib.Dec.{eqb, ltb}

@@ -1,5 +1,8 @@
 -- A contract allows one result: any two results that it allows for the same arguments are equal.
-use mathlib.Core.Path.{_≡_, sym, ap, _∙_}
+use Prim.Native.Nat.{ℕ}
+use mathlib.Core.Path.{_≡_, refl, sym, ap, _∙_}
+use mathlib.Core.Logic.{_⊎_, inl, inr}
+use Rattle.dirf.specs.Amounts.{Reading}
 use Rattle.fields.proofs.Determined.{One}
 use Rattle.rules.specs.declared.AmountRead.{AmountRead}
 use Rattle.rules.specs.declared.AmountRead.the-variants as amount
@@ -15,23 +18,38 @@ pub field-rule-one : One field-rule.Post
 field-rule-one κs a x y s t p q = p ∙ sym q
 
 -- two answers that say the same are the same, but for a refusal with number 0
-one-amount : (x y : AmountRead) → amountSays x ≡ amountSays y → (x ≡ amount.Refused 0 → ⊥) → (y ≡ amount.Refused 0 → ⊥) → x ≡ y
-one-amount (amount.Value c) (amount.Value d) e f g = ap (λ r. amount.Value (record { 0 = r .value })) e
-one-amount (amount.Value c) (amount.Refused n) e f g = absurd (g (ap (λ r. amount.Refused (r .number)) (sym e)))
-one-amount (amount.Refused n) (amount.Value c) e f g = absurd (f (ap (λ r. amount.Refused (r .number)) e))
-one-amount (amount.Refused n) (amount.Refused m) e f g = ap (λ r. amount.Refused (r .number)) e
+module _ {A : Type 0} (says : A → Reading) (value refused : ℕ → A)
+    (cases : (x : A) → ((says x .number ≡ 0) × (x ≡ value (says x .value))) ⊎ (x ≡ refused (says x .number))) where
+  one-answer : (x y : A) → says x ≡ says y → (x ≡ refused 0 → ⊥) → (y ≡ refused 0 → ⊥) → x ≡ y
+  one-answer x y e f g = go (cases x) (cases y)
+    where
+      same : says x .number ≡ says y .number
+      same = ap (λ r. r .number) e
 
-one-month : (x y : MonthRead) → monthSays x ≡ monthSays y → (x ≡ month.Refused 0 → ⊥) → (y ≡ month.Refused 0 → ⊥) → x ≡ y
-one-month (month.Value c) (month.Value d) e f g = ap (λ r. month.Value (record { 0 = r .value })) e
-one-month (month.Value c) (month.Refused n) e f g = absurd (g (ap (λ r. month.Refused (r .number)) (sym e)))
-one-month (month.Refused n) (month.Value c) e f g = absurd (f (ap (λ r. month.Refused (r .number)) e))
-one-month (month.Refused n) (month.Refused m) e f g = ap (λ r. month.Refused (r .number)) e
+      go : ((says x .number ≡ 0) × (x ≡ value (says x .value))) ⊎ (x ≡ refused (says x .number))
+          → ((says y .number ≡ 0) × (y ≡ value (says y .value))) ⊎ (y ≡ refused (says y .number)) → x ≡ y
+      go (inl p) (inl q) = p .1 ∙ ap (λ r. value (r .value)) e ∙ sym (q .1)
+      go (inl p) (inr q) = absurd (g (q ∙ ap refused (sym same ∙ p .0)))
+      go (inr p) (inl q) = absurd (f (p ∙ ap refused (same ∙ q .0)))
+      go (inr p) (inr q) = p ∙ ap refused same ∙ sym q
+
+amount-cases : (x : AmountRead) → ((amountSays x .number ≡ 0) × (x ≡ amount.Value (record { 0 = amountSays x .value })))
+    ⊎ (x ≡ amount.Refused (amountSays x .number))
+amount-cases (amount.Value c) = inl (refl, refl)
+amount-cases (amount.Refused n) = inr refl
+
+month-cases : (x : MonthRead) → ((monthSays x .number ≡ 0) × (x ≡ month.Value (record { 0 = monthSays x .value })))
+    ⊎ (x ≡ month.Refused (monthSays x .number))
+month-cases (month.Value c) = inl (refl, refl)
+month-cases (month.Refused n) = inr refl
 
 pub read-amount-one : One read-amount.Post
-read-amount-one κs a x y s t p q = one-amount x y (p .0 ∙ sym (q .0)) (p .1) (q .1)
+read-amount-one κs a x y s t p q =
+    one-answer amountSays (λ v. amount.Value (record { 0 = v })) amount.Refused amount-cases x y (p .0 ∙ sym (q .0)) (p .1) (q .1)
 
 pub read-months-one : One read-months.Post
-read-months-one κs a x y s t p q = one-month x y (p .0 ∙ sym (q .0)) (p .1) (q .1)
+read-months-one κs a x y s t p q =
+    one-answer monthSays (λ v. month.Value (record { 0 = v })) month.Refused month-cases x y (p .0 ∙ sym (q .0)) (p .1) (q .1)
 
 pub contents-found-one : One contents-found.Post
 contents-found-one κs a x y s t p q = p ∙ sym q
