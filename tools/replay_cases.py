@@ -796,6 +796,18 @@ def numbers():
                     case(letter, [number(value), number(room)], words(15, 0, 1))
 
 
+def wrong_checkers():
+    """The inputs at which docs/PROMISES.md tells the named wrong checkers from ours."""
+    masked = with_field("BPFDEC", 2, "529.982.247-25")
+    check(SIX.replace("RESPO", with_field("RESPO", 2, "111.444.777-35")), 14, 2, 2)
+    check(pf("  IDREC\n    BPFDEC\n      RTRT\n    " + masked + "\n      RTPO\nFIMDirf"), 14, 7, 2)
+    check(pf("  IDREC\n    " + with_field("BPFDEC", 2, "52998224725") + "\n  IDREC|0588|\n    BPFDEC\nFIMDirf"), 0, 8)
+    check(pj("  PROC\n    IDREC\n      BPFDEC\nFIMDirf"), 12, 6, 1)
+    check(pj("  PROC|1|9|||||\n  PROC|1|10|||||\nFIMDirf"), 20, 5, 2)
+    check(pf("  SCP\n    " + with_field("BPFSCP", 2, "00000000191") + "\n    BPFSCP\nFIMDirf"), 0, 7)
+    check(SIX.replace("FIMDirf", "    BPFSCP\nFIMDirf"), 20, 6, 2, room=5, spare=0)
+
+
 # ---- docs/TOUR.md: what the page says of each line, held by what that line and others in its place would give
 
 
@@ -902,7 +914,7 @@ def limits():
 def main(folder=os.path.join(ROOT, "crates", "replay")):
     for group in (marked, line_ends, identifiers, whole_files, places, below, orders, rooms, pairs, field_rules, identifier_rules,
     conditions, writer_order,
-                  field_places, numbers, tour, limits):
+                  field_places, numbers, wrong_checkers, tour, limits):
         group()
     with open(os.path.join(folder, "stdin"), "wb") as out:
         out.write(b"".join(RUN))

@@ -1,4 +1,5 @@
 -- What the check leaves behind, in words that a pay office could read: of a file, the table before and after, and the answer.
+-- Demand 1: "A refused file leaves the record table holding the lines before the bad one, and nothing past them is touched."
 use Prim.Native.Nat.{ℕ, suc, _*_, _≤_}
 use mathlib.Core.Path.{_≡_}
 use mathlib.Core.Logic.{_≢_}

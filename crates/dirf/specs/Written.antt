@@ -16,6 +16,7 @@ unfoldable pub writes : Found → Text → Written
 writes keeps text = record { number = 0; field = 0; bytes = text }
 writes (breaks number field) text = record { number = number; field = field; bytes = [] }
 
--- 01: "Bytes past the line stay", "a refusal leaves the output untouched": the output afterwards
+-- 01: "Bytes past the line stay", "a refusal leaves the output untouched"; demand 1: "A refused line leaves the writer's output
+-- untouched." The output afterwards
 unfoldable pub outputAfter : Written → Text → Text
 outputAfter w output = w .bytes ++ drop (length (w .bytes)) output

@@ -14,7 +14,8 @@ use Rattle.dirf.specs.Rules.{Found, keeps, breaks}
 use Rattle.dirf.specs.Written.{Written, writes, outputAfter}
 use Rattle.dirf.specs.Amounts.{Reading, readAmount, readMonths, amounts-opens}
 use Rattle.dirf.specs.LineWriter.{writeLine}
-use Rattle.dirf.specs.Theorems.ThereAndBack.{Sound-line, wholeLine, ReadsBack, together}
+use Rattle.dirf.specs.Theorems.Plain.{wholeLine}
+use Rattle.dirf.specs.Theorems.ThereAndBack.{Sound-line, ReadsBack, together}
 use Rattle.dirf.proofs.NumbersBack.{numbers-back}
 use Rattle.dirf.proofs.Demands.{demands2025}
 use Rattle.writer.specs.declared.NumberWritten.{NumberWritten}
