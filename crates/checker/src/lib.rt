@@ -395,13 +395,12 @@ fn ordered(
     ensures { λ r. ⌜ r ≡ orderStep (now (file .entry)) room st len k d q ⌝ }
 {
     let kinds = st.seen;
-    let n = st.count + 1;
-    let again = seen(kinds, k);
-    let unordered = key_bad(file, st, k, d, q);
-    let full = room < n as usize;
-    if again {
+    if seen(kinds, k) {
         return refuse(st, 21, 1);
     }
+    let n = st.count + 1;
+    let unordered = key_bad(file, st, k, d, q);
+    let full = room < n as usize;
     if unordered {
         return refuse(st, 20, 2);
     }
