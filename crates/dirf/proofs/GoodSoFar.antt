@@ -21,7 +21,8 @@ use Rattle.dirf.specs.Theorems.Plain.{NoLineEnd, wholeLine}
 use Rattle.dirf.specs.Theorems.Breach.{stray}
 use Rattle.dirf.specs.Theorems.Sound.{Closable, Sound}
 use Rattle.dirf.specs.Theorems.Answered.{recs, Closed, Accepted, FirstBroken}
-use Rattle.dirf.specs.Theorems.GoodSoFar.{Whole, empty, ends-in-CR-LF, lineEnds, Unfinished, CanBecomeAccepted, GoodSoFar, GoodUpToHere}
+use Rattle.dirf.specs.Theorems.GoodSoFar.{Whole, empty, ends-in-CR-LF, lineEnds, Unfinished, CanBecomeAccepted}
+use Rattle.dirf.specs.Theorems.GoodSoFar.{GoodSoFar, GoodUpToHere}
 use Rattle.dirf.proofs.Says.{denies}
 use Rattle.dirf.proofs.TestsSay.{closed-says}
 use Rattle.dirf.proofs.RunLaws.{Kept, Fate, passes, stops, fate, kept-verdict, stops-verdict, kept-append}
