@@ -8,14 +8,6 @@ use Rattle.writer.proofs.Outcome.{line-refused, line-written, added-up,
 use Rattle.writer.proofs.write_line.Statement.{statement}
 use Rattle.writer.proofs.write_line.Tie as tie
 
-returns : tie.Need-returns
-unfolding writes outputAfter lineWritten
-returns c =
-    let a = c .before .before .before .before .before .before .args in
-    let q = c .before .before .refusal .ensures in
-    let w = line-refused (a .kind) (a .contents .now) (a .lengths .now) (length (a .out .now)) q (c .if1 .taken) in
-    (rw w, rw w)
-
 put-line-requires : tie.Need-put-line-requires
 put-line-requires c κs =
     let a = c .before .before .before .before .before .before .before .args in
@@ -35,6 +27,14 @@ returns-2 c =
     let w = line-written (a .kind) (a .contents .now) (a .lengths .now) room q (s .if1 .left) in
     let l = line-stored (a .kind) (a .contents .now) (a .lengths .now) room q (s .if1 .left) (a .out .now) refl in
     (rw (w, p .0), rw w (p .1 ∙ l))
+
+returns : tie.Need-returns
+unfolding writes outputAfter lineWritten
+returns c =
+    let a = c .before .before .before .before .before .before .args in
+    let q = c .before .before .refusal .ensures in
+    let w = line-refused (a .kind) (a .contents .now) (a .lengths .now) (length (a .out .now)) q (c .if1 .taken) in
+    (rw w, rw w)
 
 pub write-line-spec : {M : Type 1} → statement M
 write-line-spec =
