@@ -10,7 +10,7 @@ use native.Mathlib.Omega.{arith}
 use lib.ListN.{length}
 use borrow.Author.Tests.{eq-eqb, ne-eqb}
 use Rattle.dirf.specs.Bytes.{isIn, lookup}
-use Rattle.dirf.specs.Kinds.{values, isValue}
+use Rattle.dirf.specs.Kinds.{values, isValue, opensNothing}
 use Rattle.dirf.specs.Edition.{Edition}
 use Rattle.dirf.specs.Tree.{Rec, Open, from, opened, declarant, mayHold, kindOfFirst, numberOfFirst, Place, placeIn, place}
 use Rattle.dirf.specs.Tree.{parentOf}
@@ -49,6 +49,10 @@ module _ {before : List Rec} where
   wider : {n m l : ℕ} {os : List Open} → n ≤ m → OpenRecords before n l os → OpenRecords before m l os
   wider w (none-open z) = none-open (le-trans z w)
   wider w (innermost a b k h) = innermost (le-trans a w) b k h
+
+  shallower : {n l m : ℕ} {os : List Open} → l ≤ m → OpenRecords before n l os → OpenRecords before n m os
+  shallower w (none-open z) = none-open z
+  shallower w (innermost a b k h) = innermost a (le-trans b w) k h
 
 -- what one more record leaves open, if it stands deeper than all of that; and the record itself
 module _ (r : Rec) {before : List Rec} where
@@ -121,17 +125,17 @@ module _ (e : Edition) (d k : ℕ) where
 
 module _ (e : Edition) (sound : Sound e) where
   pub open-records : {before : List Rec} → History e before → OpenRecords before (suc (length before)) 4 (opened before)
-  unfolding isValue opened place parentOf
+  unfolding isValue opensNothing opened place parentOf
   open-records start = none-open {n = 1} (omega arith)
   open-records (next {r = r} {before = before} stands parent h) =
-      if-cases (OpenRecords (r ∷ before) (suc (suc (length before))) 4) (isValue (r .kind))
-      (λ value.
-      let deepest : level (r .kind) ≡ 4 = value-level (isIn-says (r .kind) values .0 value) in
-      wider (omega arith) (open-next r (omega arith) (omega arith) (open-records h)))
-      (λ opens.
       let q = placed-in e (declarant before) (r .kind) sound none (open-records h) in
       rw (ap (λ n. from n (opened before)) parent ∙ q .found)
-      (innermost (le-refl (suc (suc (length before)))) (opens-level (r .kind) opens) (known-last r parent)
+      (if-cases (OpenRecords (r ∷ before) (suc (suc (length before))) 4) (opensNothing (r .kind))
+      (λ value.
+      let deepest : level (r .kind) ≡ 4 = value-level (isIn-says (r .kind) values .0 value) in
+      shallower (omega arith) (wider (omega arith) (open-next r (omega arith) (omega arith) (q .known))))
+      (λ opens.
+      innermost (le-refl (suc (suc (length before)))) (opens-level (r .kind) opens) (known-last r parent)
       (open-next r (omega arith) (omega arith) (q .known))))
 
   pub placed : {before : List Rec} → History e before → (k : ℕ)

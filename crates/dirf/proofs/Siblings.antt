@@ -11,7 +11,7 @@ use lib.Dec.{eqb}
 use lib.ListN.{length}
 use borrow.Author.Tests.{eqb-true, eqb-false, eq-eqb, ne-eqb, leb-true, le-leb}
 use Rattle.dirf.specs.Bytes.{if_then_else_}
-use Rattle.dirf.specs.Kinds.{isValue}
+use Rattle.dirf.specs.Kinds.{isValue, opensNothing}
 use Rattle.dirf.specs.Edition.{Edition}
 use Rattle.dirf.specs.Tree.{Rec, Open, from, opened, declarant, mayHold, kindOfFirst, numberOfFirst, Place, placeIn, place, parentOf}
 use Rattle.dirf.specs.Tree.{inOrder, mayStand}
@@ -21,6 +21,7 @@ use Rattle.dirf.proofs.Bools.{if-cases}
 use Rattle.dirf.proofs.Parents.{has-parent}
 use Rattle.dirf.proofs.History.{History, start, next}
 use Rattle.dirf.proofs.OpenRecords.{OpenRecords, none-open, innermost, first-number, placed, open-records}
+use Rattle.dirf.proofs.ValuePlace.{value-closes-nothing}
 
 -- the record of line n
 abbrev pub noRec : Rec
@@ -154,22 +155,33 @@ deep (none-open z) h = absurd (omega arith)
 deep (innermost a b known rest) h = omega arith
 
 module _ (e : Edition) (sound : Sound e) where
-  pub siblings : {before : List Rec} → History e before → Siblings before none (opened before)
-  unfolding opened place parentOf own new
-  siblings start = tt
-  siblings (next {r = r} {before = before} stands parent hist) =
-      if-cases (Siblings (r ∷ before) none) (isValue (r .kind))
-      (λ v. siblings-on r none (open-records e sound hist) (omega arith) (λ o q. let z : _≡_ {A = ℕ} 0 1 = cc in absurd (omega arith)) (inl v) (siblings hist))
-      (λ v.
+  siblings-open : (r : Rec) (before : List Rec) → mayStand e before (r .kind) ≡ true → r .parent ≡ parentOf e before (r .kind)
+      → History e before → isValue (r .kind) ≡ false → Siblings before none (opened before) → Siblings (r ∷ before) none (opened (r ∷ before))
+  unfolding opened isValue opensNothing place parentOf own new
+  siblings-open r before stands parent hist v s =
       let k = r .kind in
       let q = placed e sound hist k in
       let f : numberOfFirst (place e before k .up) < suc (length before) = first-number (q .known) in
-      rw (ap (λ n. from n (opened before)) parent ∙ q .found) (
+      rw (v, ap (λ n. from n (opened before)) parent ∙ q .found) (
         λ j w i. last-skip r before (suc (length before)) j (λ x. omega (arith, x .0, parent)) ∙ none-under sound hist (suc (length before)) j (omega arith),
         siblings-new r before (place e before k .last) (q .known) (omega arith) parent
             (λ h. has-parent e before k (deep (q .known) h) stands .2)
-            (siblings-placed e (declarant before) k before none (opened before) (siblings hist)),
-      ))
+            (siblings-placed e (declarant before) k before none (opened before) s),
+      )
+
+  none-yet : Siblings [] none (opened [])
+  unfolding opened
+  none-yet = tt
+
+  pub siblings : {before : List Rec} → History e before → Siblings before none (opened before)
+  siblings start = none-yet
+  siblings (next {r = r} {before = before} stands parent hist) = go (isValue (r .kind)) refl (siblings hist)
+    where
+      go : (t : Bool) → isValue (r .kind) ≡ t → Siblings before none (opened before) → Siblings (r ∷ before) none (opened (r ∷ before))
+      go true v s =
+          rw (value-closes-nothing e sound r hist v stands parent)
+          (siblings-on r none (open-records e sound hist) (omega arith) (λ o q. let z : _≡_ {A = ℕ} 0 1 = cc in absurd (omega arith)) (inl v) s)
+      go false v s = siblings-open r before stands parent hist v s
 
   -- and so at the place of any kind
   pub siblings-at : {before : List Rec} → History e before → (k : ℕ) → Siblings before (place e before k .last) (place e before k .up)

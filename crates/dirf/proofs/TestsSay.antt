@@ -9,7 +9,7 @@ use lib.Dec.{eqb}
 use lib.ListN.{length, length-append}
 use Rattle.dirf.specs.Bytes.{if_then_else_, Text, bytes, every, same, isEmpty, endsWith}
 use Rattle.dirf.specs.Limits.{bar}
-use Rattle.dirf.specs.Kinds.{DECPF, FIMDirf, later, values, isLater, isValue}
+use Rattle.dirf.specs.Kinds.{DECPF, FIMDirf, later, values, isLater, standsOnce}
 use Rattle.dirf.specs.Row.{Row}
 use Rattle.dirf.specs.Edition.{Edition, kindIn, kindOf}
 use Rattle.dirf.specs.Lines.{clean, unclean, fields, field}
@@ -121,9 +121,9 @@ module _ (h : Here) where
 
   -- 21
   says-21 : Says (valueRecordRepeated h) ((h .contents .kind ∈ values) × ((r : Rec) × (r ∈ h .before) × Under (h .parent) (h .contents .kind) r))
-  unfolding valueRecordRepeated isValue
+  unfolding valueRecordRepeated standsOnce
   says-21 =
-      says-and (isValue (h .contents .kind)) (isSome (lastUnder (h .before) (h .parent) (h .contents .kind)))
+      says-and (standsOnce (h .contents .kind)) (isSome (lastUnder (h .before) (h .parent) (h .contents .kind)))
       (isIn-says (h .contents .kind) values) (repeated-says (h .before) (h .parent) (h .contents .kind))
 
   -- 20

@@ -358,7 +358,15 @@ isBeneficiary k = isIn k beneficiaries
 unfoldable pub isValue : ℕ → Bool
 isValue k = isIn k values
 
+-- Two questions that the base answers alike. Does nothing ever stand below a record of this kind? In the base, below a value record.
+unfoldable pub opensNothing : ℕ → Bool
+opensNothing k = isIn k values
+
+-- 01, "The tree": "each at most once, in any order". Does a kind stand at most once under its parent? In the base, a value record.
+unfoldable pub standsOnce : ℕ → Bool
+standsOnce k = isIn k values
+
 -- to compute with this file: `unfolding kinds-opens`
 unfoldable pub kinds-opens : Unit {0}
-unfolding later blocks beneficiaries values isLater isBlock isBeneficiary isValue
+unfolding later blocks beneficiaries values isLater isBlock isBeneficiary isValue opensNothing standsOnce
 kinds-opens = tt

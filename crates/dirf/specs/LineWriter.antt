@@ -7,10 +7,8 @@ use lib.ListN.{length, take, drop}
 use Rattle.dirf.specs.Bytes.{Text}
 use Rattle.dirf.specs.Limits.{bar, lineEnd}
 use Rattle.dirf.specs.Edition.{Edition, isBase}
-use Rattle.dirf.specs.Fields.{fieldOrder}
-use Rattle.dirf.specs.Conditions.{conditionOrder}
-use Rattle.dirf.specs.Rules.{Contents, Rule, gives, fieldByField, conditions, first}
-use Rattle.dirf.specs.Order.{contentsOf, wrongNumberOfFields}
+use Rattle.dirf.specs.Rules.{Contents, Rule, gives, askedOf, over, first}
+use Rattle.dirf.specs.Order.{contentsOf, fieldCount, contents}
 use Rattle.dirf.specs.Written.{Written, writes}
 
 -- "the contents of all fields one after another, their lengths": the contents, field by field
@@ -57,14 +55,13 @@ outputTooSmall w = ltb (w .room) (length (lineOf (w .contents .cells)))
 
 -- 01, "The line writer": "It refuses, in order"
 unfoldable pub writerOrder : List (Rule Writing)
+unfolding over askedOf
 writerOrder =
-    gives 22 0 noBaseKind ∷
-    gives 11 0 (λ w. wrongNumberOfFields (w .contents)) ∷
-    gives 23 0 lengthsDoNotAddUp ∷
-    fieldByField fieldOrder (λ w. w .contents) ∷
-    conditions 19 conditionOrder (λ w. w .contents) ∷
-    gives 24 0 outputTooSmall ∷
-    []
+    (gives 22 0 noBaseKind ∷ [])
+    ++ over (λ w. w .contents) fieldCount
+    ++ (gives 23 0 lengthsDoNotAddUp ∷ [])
+    ++ over (λ w. w .contents) contents
+    ++ (gives 24 0 outputTooSmall ∷ [])
 
 -- what the writer answers for a kind, contents, their lengths and an output of so many bytes
 unfoldable pub writeLine : Edition → ℕ → Text → List ℕ → ℕ → Written

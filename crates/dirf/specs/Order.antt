@@ -1,17 +1,17 @@
 -- The rules of a line: document 01's table of numbers, one definition a row, and the order in which they are tried.
 use Prim.Native.Nat.{ℕ, suc}
 use mathlib.Core.Bool.{Bool, true, false, _&&_, not}
-use mathlib.Core.List.{List, [], _∷_}
+use mathlib.Core.List.{List, [], _∷_, _++_}
 use lib.Dec.{eqb, ltb}
 use lib.ListN.{length}
 use Rattle.dirf.specs.Bytes.{Text, isEmpty, endsWith}
 use Rattle.dirf.specs.Limits.{lineLimit, linesLimit, bar, CR}
-use Rattle.dirf.specs.Kinds.{FIMDirf, isLater, isValue}
+use Rattle.dirf.specs.Kinds.{FIMDirf, isLater, standsOnce}
 use Rattle.dirf.specs.Edition.{Edition, kindOf, nameOf, rowsOf}
 use Rattle.dirf.specs.Lines.{Piece, clean, unclean, fields, field}
 use Rattle.dirf.specs.Fields.{fieldOrder}
 use Rattle.dirf.specs.Conditions.{conditionOrder}
-use Rattle.dirf.specs.Rules.{Contents, Rule, gives, fieldByField, conditions}
+use Rattle.dirf.specs.Rules.{Contents, Rule, gives, fieldByField, conditions, askedOf, over}
 use Rattle.dirf.specs.Tree.{Rec, mayStand, parentOf}
 use Rattle.dirf.specs.Keys.{hasKey, lastUnder, isSome, notAfter}
 
@@ -100,7 +100,7 @@ wrongNumberOfFields c = not (eqb (length (c .cells)) (length (c .rows)))
 
 -- 21 "a value record repeated under one beneficiary"
 unfoldable pub valueRecordRepeated : Here → Bool
-valueRecordRepeated h = isValue (h .contents .kind) && isSome (lastUnder (h .before) (h .parent) (h .contents .kind))
+valueRecordRepeated h = standsOnce (h .contents .kind) && isSome (lastUnder (h .before) (h .parent) (h .contents .kind))
 
 -- 20 "key not greater"
 unfoldable pub keyNotGreater : Here → Bool
@@ -112,25 +112,35 @@ keyNotGreater h =
 unfoldable pub noRoom : Here → Bool
 noRoom h = ltb (h .room) (lineNumber h)
 
--- 01: "Tried for each line in this order": number, field, given exactly when
+-- 01's table in parts, which the line writer's list is made of too: number, field, given exactly when.
+abbrev pub limits : List (Rule Here)
+limits = gives 2 0 bytesFollowFIMDirf ∷ gives 3 0 tooManyLines ∷ []
+
+abbrev pub lineEnds : List (Rule Here)
+lineEnds = gives 4 0 lineTooLong ∷ gives 5 0 inputEnds ∷ gives 6 0 strayLineEnd ∷ gives 8 0 noBarAtTheEnd ∷ []
+
+abbrev pub kind : List (Rule Here)
+kind = gives 9 1 identifierUnknown ∷ gives 10 1 leftForLater ∷ []
+
+abbrev pub place : List (Rule Here)
+place = gives 12 1 mayNotStandHere ∷ []
+
+abbrev pub fieldCount : List (Rule Contents)
+fieldCount = gives 11 0 wrongNumberOfFields ∷ []
+
+abbrev pub contents : List (Rule Contents)
+contents = fieldByField fieldOrder (λ c. c) ∷ conditions 19 conditionOrder (λ c. c) ∷ []
+
+abbrev pub lookBack : List (Rule Here)
+lookBack = gives 21 1 valueRecordRepeated ∷ gives 20 2 keyNotGreater ∷ []
+
+abbrev pub room : List (Rule Here)
+room = gives 7 0 noRoom ∷ []
+
+-- 01: "Tried for each line in this order"
 unfoldable pub order : List (Rule Here)
-order =
-    gives 2 0 bytesFollowFIMDirf ∷
-    gives 3 0 tooManyLines ∷
-    gives 4 0 lineTooLong ∷
-    gives 5 0 inputEnds ∷
-    gives 6 0 strayLineEnd ∷
-    gives 8 0 noBarAtTheEnd ∷
-    gives 9 1 identifierUnknown ∷
-    gives 10 1 leftForLater ∷
-    gives 12 1 mayNotStandHere ∷
-    gives 11 0 (λ h. wrongNumberOfFields (h .contents)) ∷
-    fieldByField fieldOrder (λ h. h .contents) ∷
-    conditions 19 conditionOrder (λ h. h .contents) ∷
-    gives 21 1 valueRecordRepeated ∷
-    gives 20 2 keyNotGreater ∷
-    gives 7 0 noRoom ∷
-    []
+unfolding over askedOf
+order = limits ++ lineEnds ++ kind ++ place ++ over (λ h. h .contents) (fieldCount ++ contents) ++ lookBack ++ room
 
 -- to compute with this file: `unfolding order-opens`; `line-opens` leaves shut what looks at the lines before
 unfoldable pub line-opens : Unit {0}

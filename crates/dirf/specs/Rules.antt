@@ -62,7 +62,18 @@ module _ {A : Type 0} where
   first [] a = keeps
   first (r ∷ rs) a = orElse (ask r a) (first rs a)
 
+-- rules of one thing, asked of another that has such a thing
+module _ {A B : Type 0} (part : A → B) where
+  unfoldable pub askedOf : Rule B → Rule A
+  askedOf (gives n f test) = gives n f (λ a. test (part a))
+  askedOf (fieldByField xs of) = fieldByField xs (λ a. of (part a))
+  askedOf (conditions n xs of) = conditions n xs (λ a. of (part a))
+
+  unfoldable pub over : List (Rule B) → List (Rule A)
+  over [] = []
+  over (r ∷ rs) = askedOf r ∷ over rs
+
 -- to compute with this file: `unfolding rules-opens`
 unfoldable pub rules-opens : Unit {0}
-unfolding given orElse askField askFields askConditions ask first
+unfolding given orElse askField askFields askConditions ask first askedOf over
 rules-opens = tt

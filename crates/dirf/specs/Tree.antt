@@ -7,7 +7,7 @@ use lib.Dec.{eqb, ltb, leb}
 use lib.ListN.{length, getD}
 use Rattle.dirf.specs.Bytes.{if_then_else_, Text, isIn, lookup}
 use Rattle.dirf.specs.Kinds.{Dirf, RESPO, declarants, IDREC, FCI, PROC, RRA, BPFDEC, BPJDEC, BPFFCI, BPJFCI, BPFPROC}
-use Rattle.dirf.specs.Kinds.{BPJPROC, BPFRRA, FIMDirf, isValue}
+use Rattle.dirf.specs.Kinds.{BPJPROC, BPFRRA, FIMDirf, opensNothing}
 use Rattle.dirf.specs.Edition.{Edition}
 
 -- A record that was read: its kind, its line without the line end, its parent's line number (0: none). The records read so far are
@@ -27,12 +27,13 @@ unfoldable pub from : ℕ → List Open → List Open
 from n [] = []
 from n (o ∷ os) = if eqb n (o .number) then o ∷ os else from n os
 
--- The open records, innermost first. A value record opens nothing; any other opens below its parent and closes what was open there.
+-- The open records, innermost first. Every record closes what was open below its parent, and then is open itself, unless nothing ever
+-- stands below its kind.
 unfoldable pub opened : List Rec → List Open
 opened [] = []
 opened (r ∷ rs) =
-    if isValue (r .kind) then opened rs
-    else record { number = suc (length rs); kind = r .kind } ∷ from (r .parent) (opened rs)
+    let outer = from (r .parent) (opened rs) in
+    if opensNothing (r .kind) then outer else record { number = suc (length rs); kind = r .kind } ∷ outer
 
 -- 01, "The tree": "Lines 1, 2, 3 are Dirf, RESPO and one of DECPF or DECPJ."
 unfoldable pub opening : List (List ℕ)
