@@ -5,6 +5,7 @@ pub mod Tables
 pub mod Says
 pub mod Lists
 pub mod Asked
+pub mod RulesPut
 pub mod Given
 pub mod RuleLaws
 pub mod CleanLaws
@@ -35,3 +36,4 @@ pub mod Base
 pub mod WriterBack
 pub mod Demands
 pub mod ValuePlace
+pub mod LastOfKind
