@@ -35,6 +35,6 @@ module _ (text : Text) (small : length text ≤ 18446744073709551615) where
       (cells-along ns (at + n) (addPlace p at n) (omega arith) (fifteen-more text p at n f) (omega arith)
       ∙ rw (cells-more text p at n f (omega arith), append-assoc))
 
-  pub along-cells : (ns : List ℕ) → sum ns ≡ length text → length ns ≤ 15 → cellsAt text (placesAlong ns) ≡ cut ns text
+  pub along-cells : (ns : List ℕ) → sum ns ≡ length text → length ns ≤ mostFields → cellsAt text (placesAlong ns) ≡ cut ns text
   unfolding placesAlong noPlaces cellsAt cellsFrom
   along-cells ns e h = cells-along ns 0 noPlaces (omega arith) record { starts = refl; lens = refl } (omega arith)

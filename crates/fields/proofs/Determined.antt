@@ -9,7 +9,7 @@ use Rattle.fields.proofs.key_count.Reads as key-count
 use Rattle.fields.proofs.place_of.Reads as place-of
 use Rattle.fields.proofs.field.Reads as field
 use Rattle.fields.proofs.field_there.Reads as field-there
-use Rattle.fields.proofs.places_of.Reads as places-of
+use Rattle.fields.proofs.scan.Reads as scan
 use Rattle.fields.proofs.places_along.Reads as places-along
 
 -- what a contract ensures is asked of lifetimes, arguments, a result and the parameters at exit
@@ -58,8 +58,8 @@ place-of-one κs a x y s t p q = p ∙ sym q
 pub field-there-one : One field-there.Post
 field-there-one κs a x y s t p q = p ∙ sym q
 
-pub places-of-one : One places-of.Post
-places-of-one κs a x y s t p q = p ∙ sym q
+pub scan-one : One scan.Post
+scan-one κs a x y s t p q = p ∙ sym q
 
 pub places-along-one : One places-along.Post
 places-along-one κs a x y s t p q = p ∙ sym q

@@ -41,9 +41,9 @@ module _ (s : Text) (p : Places) where
   length-from i zero = refl
   length-from i (suc n) = ap suc (length-from (suc i) n)
 
-  pub cells-length : length (cellsAt s p) ≡ min 15 (p .count)
+  pub cells-length : length (cellsAt s p) ≡ min mostFields (p .count)
   unfolding cellsAt
-  cells-length = length-from 0 (min 15 (p .count))
+  cells-length = length-from 0 (min mostFields (p .count))
 
   from-at : (i n j : ℕ) (d : Text) → j < n → getD (cellsFrom s p i n) j d ≡ cellAt s p (i + j)
   unfolding cellsFrom
@@ -51,9 +51,9 @@ module _ (s : Text) (p : Places) where
   from-at i (suc n) zero d h = rw add-zero
   from-at i (suc n) (suc j) d h = from-at (suc i) n j d (omega arith) ∙ ap (cellAt s p) (omega arith)
 
-  pub cell-at : (i : ℕ) (d : Text) → i < min 15 (p .count) → getD (cellsAt s p) i d ≡ cellAt s p i
+  pub cell-at : (i : ℕ) (d : Text) → i < min mostFields (p .count) → getD (cellsAt s p) i d ≡ cellAt s p i
   unfolding cellsAt
-  cell-at i d h = from-at 0 (min 15 (p .count)) i d h ∙ ap (cellAt s p) (zero-add i)
+  cell-at i d h = from-at 0 (min mostFields (p .count)) i d h ∙ ap (cellAt s p) (zero-add i)
 
   -- one cell more at the end
   from-more : (i n : ℕ) → cellsFrom s p i (suc n) ≡ cellsFrom s p i n ++ (cellAt s p (i + n) ∷ [])
@@ -117,7 +117,7 @@ module _ (line : Text) where
       ∙ rw (cells-more line p start (at - start) f (omega arith), c, append-assoc))
       (λ e. let q = rw e at q in walk-cells s start (at + 1) p d′ (omega arith) (omega arith) f k)
 
-pub places-cells : (line : Text) → length (fields line) ≤ 15 → cellsAt line (placesOf line) ≡ fields line
+pub places-cells : (line : Text) → length (fields line) ≤ mostFields → cellsAt line (placesOf line) ≡ fields line
 unfolding placesOf noPlaces cellsAt cellsFrom
 places-cells line h =
     walk-cells line line 0 0 noPlaces refl (omega arith) refl record { starts = refl; lens = refl } (omega arith)

@@ -2,14 +2,15 @@
 use Prim.Native.Nat.{ℕ, zero, suc, _+_, _-_, min}
 use mathlib.Core.List.{List, [], _∷_, map}
 use lib.Dec.{eqb}
-use lib.ListN.{getD, take, drop, set, replicate}
+use lib.ListN.{length, getD, take, drop, set, replicate}
 use Rattle.dirf.specs.Bytes.{if_then_else_, Text}
 use Rattle.dirf.specs.Limits.{bar}
 use Rattle.dirf.specs.FieldReader.{fieldThere, fieldStart, fieldLength}
 use Rattle.dirf.specs.Keys.{keyFields}
-use Rattle.dirf.specs.Lines.{field}
+use Rattle.dirf.specs.Lines.{clean, field}
 use Rattle.fields.specs.declared.Place.{Place}
 use Rattle.fields.specs.declared.Places.{Places}
+use Rattle.fields.specs.declared.Scanned.{Scanned}
 
 -- the part of a text at a place; past the end there is nothing
 unfoldable pub partOf : Text → ℕ → ℕ → Text
@@ -41,6 +42,10 @@ placesFrom (b ∷ s) start at p =
 -- the places of the fields of a line
 unfoldable pub placesOf : Text → Places
 placesOf line = placesFrom line 0 0 noPlaces
+
+-- the bytes of a text before the first CR or LF, or before its end: how many there are, and where their fields stand
+unfoldable pub scanOf : Text → Scanned
+scanOf s = record { len = length (clean s); places = placesOf (clean s) }
 
 -- fields one after another from `at` on, of these lengths; no start is past the last 64-bit number
 unfoldable pub alongFrom : List ℕ → ℕ → Places → Places

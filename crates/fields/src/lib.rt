@@ -5,9 +5,13 @@ ghost use Prim.Native.Nat.{_+_, _≤_, _<_, min};
 ghost use lib.ListN.{length, drop, set};
 ghost use denote.Ref.{ptr};
 ghost use Rattle.dirf.specs.Bytes.{same as sameText, less as lessText};
+ghost use Rattle.dirf.specs.Lines.{isLineEnd, fields as fieldsOf};
 ghost use Rattle.dirf.specs.FieldReader.{fieldThere, fieldOf, fieldStart};
-ghost use Rattle.dirf.specs.Keys.{keyFields, keyLess};
-ghost use Rattle.fields.specs.Places.{partOf, placeOf, placesOf, placesAlong, keyParts, barIn};
+ghost use Rattle.dirf.specs.Keys.{keyFields, keyOf, keyLess};
+ghost use Rattle.fields.specs.Places.{partOf, placeOf, scanOf, placesAlong, keyParts, barIn};
+
+// No record has more fields than this.
+pub const MOST_FIELDS: usize = 15;
 
 // Where a field stands in its line.
 pub struct Place {
@@ -19,8 +23,14 @@ pub struct Place {
 // Where the fields of a line stand: how many there are, and the first fifteen's starts and lengths.
 pub struct Places {
     pub count: usize,
-    pub starts: [usize; 15],
-    pub lens: [usize; 15],
+    pub starts: [usize; MOST_FIELDS],
+    pub lens: [usize; MOST_FIELDS],
+}
+
+// How many bytes stand before the first CR or LF, or before the end, and where their fields stand.
+pub struct Scanned {
+    pub len: usize,
+    pub places: Places,
 }
 
 // The part at a place, as a part of the caller's own bytes; past the end there is nothing.
@@ -86,13 +96,13 @@ fn then_less(a: &[u8], b: &[u8], x: &[u8], y: &[u8]) -> bool
     false
 }
 
-// Whether the key of a record of kind k, out of its fields 2 and 3, comes before another's of that kind.
-pub fn key_less(k: u32, a: &[u8], b: &[u8], x: &[u8], y: &[u8]) -> bool
-    ensures { λ r. ⌜ r ≡ keyLess (keyParts k (now (a .entry)) (now (b .entry))) (keyParts k (now (x .entry)) (now (y .entry))) ⌝ }
+// Whether the key of an earlier line of kind k comes before that of a record of that kind with these fields 2 and 3.
+pub fn key_less(k: u32, earlier: &[u8], second: &[u8], third: &[u8]) -> bool
+    ensures { λ r. ⌜ r ≡ keyLess (keyOf k (fieldsOf (now (earlier .entry)))) (keyParts k (now (second .entry)) (now (third .entry))) ⌝ }
 {
     match key_count(k) {
-        2 => then_less(a, b, x, y),
-        1 => less(a, x),
+        2 => then_less(field(earlier, 2), field(earlier, 3), second, third),
+        1 => less(field(earlier, 2), second),
         _ => false,
     }
 }
@@ -187,17 +197,42 @@ fn note(to: &mut [usize], n: usize, v: usize)
     }
 }
 
-// The places of a line's fields, in one walk from bar to bar.
-pub fn places_of(line: &[u8]) -> Places
-    ensures { λ r. ⌜ r ≡ placesOf (now (line .entry)) ⌝ }
+// A CR or an LF.
+fn ends_line(b: u8) -> bool
+    ensures { λ r. ⌜ r ≡ isLineEnd b ⌝ }
+{
+    // most bytes of a line are greater
+    if 13 < b {
+        return false;
+    }
+    if b == 13 {
+        return true;
+    }
+    b == 10
+}
+
+// The bytes before the first CR or LF, or before the end, and their fields: the one walk over a line.
+pub fn scan(s: &[u8]) -> Scanned
+    ensures { λ r. ⌜ r ≡ scanOf (now (s .entry)) ⌝ }
 {
     let mut count = 0;
-    let mut starts = [0; 15];
-    let mut lens = [0; 15];
+    let mut starts = [0; MOST_FIELDS];
+    let mut lens = [0; MOST_FIELDS];
     let mut start = 0;
     let mut i = 0;
-    while i < line.len() {
-        if line[i] == 124 {
+    while i < s.len() {
+        let b = s[i];
+        if ends_line(b) {
+            return Scanned {
+                len: i,
+                places: Places {
+                    count: count,
+                    starts: starts,
+                    lens: lens,
+                },
+            };
+        }
+        if b == 124 {
             note(&mut starts, count, start);
             note(&mut lens, count, i - start);
             count += 1;
@@ -205,10 +240,13 @@ pub fn places_of(line: &[u8]) -> Places
         }
         i += 1;
     }
-    Places {
-        count: count,
-        starts: starts,
-        lens: lens,
+    Scanned {
+        len: i,
+        places: Places {
+            count: count,
+            starts: starts,
+            lens: lens,
+        },
     }
 }
 
@@ -216,8 +254,8 @@ pub fn places_of(line: &[u8]) -> Places
 pub fn places_along(lengths: &[usize]) -> Places
     ensures { λ r. ⌜ r ≡ placesAlong (now (lengths .entry)) ⌝ }
 {
-    let mut starts = [0; 15];
-    let mut lens = [0; 15];
+    let mut starts = [0; MOST_FIELDS];
+    let mut lens = [0; MOST_FIELDS];
     let mut at = 0;
     let mut i = 0;
     while i < lengths.len() {

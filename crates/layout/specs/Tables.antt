@@ -5,12 +5,12 @@ use mathlib.Core.List.{List, [], _∷_, _++_, map}
 use lib.Dec.{eqb, ltb}
 use lib.ListN.{length, getD, take, drop, replicate}
 use Rattle.dirf.specs.Bytes.{if_then_else_, Text, bytes, isIn, lookup}
-use Rattle.dirf.specs.Kinds.{DECPF, IDREC}
+use Rattle.dirf.specs.Kinds.{IDREC}
 use Rattle.dirf.specs.Row.{Row, row, Format, C, N, D, Fill, fixed, variable, Need, obligatory, optional}
 use Rattle.dirf.specs.Row.{Holds, identifier, amount, months, ddd, telephone, cpf, cnpj, cpfOrCnpj, plain, oneOf, sOrN}
-use Rattle.dirf.specs.Edition.{edition2025, kindIn, nameOf, rowsOf}
-use Rattle.dirf.specs.Below.{underDECPF, underDECPJ}
+use Rattle.dirf.specs.Edition.{Edition, kindIn, nameOf, rowsOf}
 use Rattle.dirf.specs.Tree.{blockOf}
+use Rattle.fields.specs.Places.{mostFields}
 
 -- f 0, f 1, .. , n of them
 abbrev pub tab {ℓ} : {A : Type ℓ} → (ℕ → A) → ℕ → ℕ → List A
@@ -35,12 +35,9 @@ nameStart k = if ltb k kinds then k * slot + 1 else 0
 
 -- the kinds and their identifiers, as a table has them
 unfoldable pub namesIn : List ℕ → List (ℕ × Text)
-namesIn t = tab (λ k. (k, nameIn t k)) 1 73
+namesIn t = tab (λ k. (k, nameIn t k)) 1 (kinds - 1)
 
 -- a record's line in the table of field rows: the number of its fields, then fifteen rows of five bytes
-abbrev pub mostFields : ℕ
-mostFields = 15
-
 abbrev pub rowBytes : ℕ
 rowBytes = 5
 
@@ -102,11 +99,11 @@ rowsIn t k = tab (rowIn t k) 0 (countIn t k)
 unfoldable pub yesIn : List (List ℕ) → ℕ → ℕ → Bool
 yesIn t h k = ltb h kinds && ltb k kinds && eqb (getD (getD t h []) k 0) 89
 
--- may a record of kind k stand directly below one of kind h, which belongs to one of kind u, by the declarant's table?
-unfoldable pub holdsIn : List (List ℕ) → List (List ℕ) → ℕ → ℕ → ℕ → ℕ → Bool
-holdsIn pf pj d h u k = (if eqb d DECPF then yesIn pf h k else yesIn pj h k) && (if eqb h IDREC then eqb (blockOf d k) u else true)
+-- may a record of kind k stand directly below one of kind h, which belongs to one of kind u, by the table of the declarant d?
+unfoldable pub holdsIn : List (List ℕ) → ℕ → ℕ → ℕ → ℕ → Bool
+holdsIn t d h u k = yesIn t h k && (if eqb h IDREC then eqb (blockOf d k) u else true)
 
--- the tables of the edition of 2025: each is the constant of the same name, by computing
+-- the tables of an edition
 unfoldable pub slotOf : Text → List ℕ
 slotOf s = length s ∷ (s ++ replicate (7 - length s) 0)
 
@@ -114,21 +111,16 @@ unfoldable pub concat : List (List ℕ) → List ℕ
 concat [] = []
 concat (x ∷ xs) = x ++ concat xs
 
-unfoldable pub nameTable : List ℕ
-nameTable = concat (tab (λ k. slotOf (nameOf edition2025 k)) 0 kinds)
+unfoldable pub nameTable : Edition → List ℕ
+nameTable e = concat (tab (λ k. slotOf (nameOf e k)) 0 kinds)
 
 unfoldable pub yes : Bool → ℕ
 yes true = 89
 yes false = 46
 
-unfoldable pub belowTable : List (ℕ × List ℕ) → List (List ℕ)
-belowTable t = tab (λ h. tab (λ k. yes (isIn k (lookup [] t h))) 0 kinds) 0 kinds
-
-unfoldable pub pfTable : List (List ℕ)
-pfTable = belowTable underDECPF
-
-unfoldable pub pjTable : List (List ℕ)
-pjTable = belowTable underDECPJ
+-- of a declarant
+unfoldable pub belowTable : Edition → ℕ → List (List ℕ)
+belowTable e d = tab (λ h. tab (λ k. yes (isIn k (lookup [] (e .below d) h))) 0 kinds) 0 kinds
 
 -- the five bytes of a row
 unfoldable pub formatByte : Format → ℕ
@@ -166,5 +158,5 @@ rowBytesOf r = formatByte (r .format) ∷ fillByte (r .fill) ∷ r .size ∷ nee
 unfoldable pub recordOf : List Row → List ℕ
 recordOf rows = length rows ∷ (concat (map rowBytesOf rows) ++ replicate ((mostFields - length rows) * rowBytes) 46)
 
-unfoldable pub rowTable : List ℕ
-rowTable = concat (tab (λ k. recordOf (rowsOf edition2025 k)) 0 kinds)
+unfoldable pub rowTable : Edition → List ℕ
+rowTable e = concat (tab (λ k. recordOf (rowsOf e k)) 0 kinds)

@@ -3,14 +3,31 @@
 ghost use mathlib.Core.Path.{_≡_};
 ghost use Prim.Native.Nat.{_+_};
 ghost use denote.Ref.{ptr};
-ghost use Rattle.dirf.specs.Kinds.{isLater, isValue};
+ghost use Rattle.dirf.specs.Kinds.{isLater, isValue, opensNothing, standsOnce};
+ghost use Rattle.dirf.specs.Kinds.{DECPF, DECPJ};
 ghost use Rattle.dirf.specs.Edition.{edition2025, kindIn, isBase};
 ghost use Rattle.dirf.specs.Tree.{blockOf};
-ghost use Rattle.layout.specs.Tables.{nameIn, nameStart, namesIn, countIn, yesIn, holdsIn, nameTable, rowTable, pfTable, pjTable};
+ghost use Rattle.layout.specs.Tables.{nameIn, nameStart, namesIn, countIn, yesIn, holdsIn, nameTable, rowTable, belowTable};
 ghost use Rattle.layout.specs.Codes.{rowCodes};
 
+// The kinds are numbered from 1, and 0 is none.
+pub const KINDS: usize = 74;
+
+// A slot of the identifiers: a length and seven bytes. A record's line of rows: a count, and room for the rows of the most fields.
+const SLOT: usize = 8;
+
+const ROW: usize = 5;
+
+const MOST_FIELDS: usize = fields::MOST_FIELDS;
+
+const RECORD: usize = 1 + MOST_FIELDS * ROW;
+
+pub const NAME_BYTES: usize = KINDS * SLOT;
+
+pub const ROW_BYTES: usize = KINDS * RECORD;
+
 // A slot for each kind, from 0: the length of its identifier, then the identifier.
-const NAMES: [u8; 592] = *b"\
+const NAMES: [u8; NAME_BYTES] = *b"\
     \x00\0\0\0\0\0\0\0\
     \x04Dirf\0\0\0\
     \x05RESPO\0\0\
@@ -87,7 +104,7 @@ const NAMES: [u8; 592] = *b"\
     \x07FIMDirf";
 
 // A line for each kind, from 0: the number of its fields, then five bytes a field: format, fill, size, need, what it holds.
-const ROWS: [u8; 5624] = *b"\
+const ROWS: [u8; ROW_BYTES] = *b"\
     \x00...........................................................................\
     \x06CF\x04SiNF\x04SyNF\x04SzCF\x01SsNF\x0cN.CF\x07Sr.............................................\
     \x08CF\x05SiNF\x0bScCV\x3cS.NF\x02SdNV\x09StNV\x06N.NV\x09NtCV\x32N....................................\
@@ -164,7 +181,7 @@ const ROWS: [u8; 5624] = *b"\
     \x01CF\x07Si......................................................................";
 
 // Which record may stand directly below which: a row for each parent, a column for each child; one table for each declarant.
-const BELOW_DECPF: [[u8; 74]; 74] = [
+const BELOW_DECPF: [[u8; KINDS]; KINDS] = [
     *b"..........................................................................",
     *b"..........................................................................",
     *b"..........................................................................",
@@ -241,7 +258,7 @@ const BELOW_DECPF: [[u8; 74]; 74] = [
     *b"..........................................................................",
 ];
 
-const BELOW_DECPJ: [[u8; 74]; 74] = [
+const BELOW_DECPJ: [[u8; KINDS]; KINDS] = [
     *b"..........................................................................",
     *b"..........................................................................",
     *b"..........................................................................",
@@ -335,39 +352,49 @@ const NO_ROW: Row = Row {
     holds: 0,
 };
 
-pub fn name_table() -> [u8; 592]
-    ensures { λ r. ⌜ r ≡ nameTable ⌝ }
+pub fn name_table() -> [u8; NAME_BYTES]
+    ensures { λ r. ⌜ r ≡ nameTable edition2025 ⌝ }
 {
     NAMES
 }
 
-pub fn row_table() -> [u8; 5624]
-    ensures { λ r. ⌜ r ≡ rowTable ⌝ }
+pub fn row_table() -> [u8; ROW_BYTES]
+    ensures { λ r. ⌜ r ≡ rowTable edition2025 ⌝ }
 {
     ROWS
 }
 
-pub fn pf_table() -> [[u8; 74]; 74]
-    ensures { λ r. ⌜ r ≡ pfTable ⌝ }
+fn pf_table() -> [[u8; KINDS]; KINDS]
+    ensures { λ r. ⌜ r ≡ belowTable edition2025 DECPF ⌝ }
 {
     BELOW_DECPF
 }
 
-pub fn pj_table() -> [[u8; 74]; 74]
-    ensures { λ r. ⌜ r ≡ pjTable ⌝ }
+fn pj_table() -> [[u8; KINDS]; KINDS]
+    ensures { λ r. ⌜ r ≡ belowTable edition2025 DECPJ ⌝ }
 {
     BELOW_DECPJ
 }
 
+// What may stand below what under a declarant of this kind; DECPJ's table for what is no declarant.
+pub fn below_table(declarant: u32) -> [[u8; KINDS]; KINDS]
+    ensures { λ r. ⌜ r ≡ belowTable edition2025 declarant ⌝ }
+{
+    if declarant == 3 {
+        return pf_table();
+    }
+    pj_table()
+}
+
 // The identifier of a kind, as a part of the lent table; empty for what is no kind.
-pub fn name(names: &[u8; 592], k: u32) -> &[u8]
+pub fn name(names: &[u8; NAME_BYTES], k: u32) -> &[u8]
     ensures { λ r. ⌜ (now r ≡ nameIn (now (names .entry)) k) × ((ptr r .0 ≡ ptr (names .entry) .0) × (ptr r .1 ≡ ptr (names .entry) .1 + nameStart k)) ⌝ }
 {
     let all = &names[..];
-    if 74 <= k {
+    if KINDS <= k as usize {
         return &all[0..0];
     }
-    let at = k as usize * 8;
+    let at = k as usize * SLOT;
     let n = names[at];
     let start = at + 1;
     if 7 < n {
@@ -379,13 +406,16 @@ pub fn name(names: &[u8; 592], k: u32) -> &[u8]
 }
 
 // The kind that an identifier names; 0: unknown.
-pub fn kind_of(names: &[u8; 592], s: &[u8]) -> u32
+pub fn kind_of(names: &[u8; NAME_BYTES], s: &[u8]) -> u32
     ensures { λ r. ⌜ r ≡ kindIn (namesIn (now (names .entry))) (now (s .entry)) ⌝ }
 {
     let mut k = 1;
-    while k < 74 {
-        if fields::same(name(names, k), s) {
-            return k;
+    while k < KINDS {
+        // most identifiers differ in length already
+        if name_length(names, k) == s.len() {
+            if fields::same(name(names, k as u32), s) {
+                return k as u32;
+            }
         }
         k += 1;
     }
@@ -393,30 +423,30 @@ pub fn kind_of(names: &[u8; 592], s: &[u8]) -> u32
 }
 
 // How many fields a kind has.
-pub fn field_count(rows: &[u8; 5624], k: u32) -> usize
+pub fn field_count(rows: &[u8; ROW_BYTES], k: u32) -> usize
     ensures { λ r. ⌜ r ≡ countIn (now (rows .entry)) k ⌝ }
 {
-    if 74 <= k {
+    if KINDS <= k as usize {
         return 0;
     }
-    let n = rows[k as usize * 76];
-    if 15 < n {
-        return 15;
+    let n = rows[k as usize * RECORD];
+    if MOST_FIELDS < n as usize {
+        return MOST_FIELDS;
     }
     n as usize
 }
 
 // Row i, from 0, of a kind; past the last row, whatever: nobody asks for it.
-pub fn row_at(rows: &[u8; 5624], k: u32, i: usize) -> Row
+pub fn row_at(rows: &[u8; ROW_BYTES], k: u32, i: usize) -> Row
     ensures { λ r. ⌜ r ≡ rowCodes (now (rows .entry)) k i ⌝ }
 {
-    if 74 <= k {
+    if KINDS <= k as usize {
         return NO_ROW;
     }
-    if 15 <= i {
+    if MOST_FIELDS <= i {
         return NO_ROW;
     }
-    let at = k as usize * 76 + 1 + i * 5;
+    let at = k as usize * RECORD + 1 + i * ROW;
     Row {
         format: rows[at],
         fill: rows[at + 1],
@@ -426,28 +456,27 @@ pub fn row_at(rows: &[u8; 5624], k: u32, i: usize) -> Row
     }
 }
 
-fn yes(t: &[[u8; 74]; 74], h: u32, k: u32) -> bool
+fn yes(t: &[[u8; KINDS]; KINDS], h: u32, k: u32) -> bool
     ensures { λ r. ⌜ r ≡ yesIn (now (t .entry)) h k ⌝ }
 {
-    if 74 <= h {
+    if KINDS <= h as usize {
         return false;
     }
-    if 74 <= k {
+    if KINDS <= k as usize {
         return false;
     }
     t[h as usize][k as usize] == b'Y'
 }
 
-// May a record of kind k stand directly below one of kind h, which belongs to one of kind u, under the declarant d?
-pub fn may_hold(pf: &[[u8; 74]; 74], pj: &[[u8; 74]; 74], d: u32, h: u32, u: u32, k: u32) -> bool
-    ensures { λ r. ⌜ r ≡ holdsIn (now (pf .entry)) (now (pj .entry)) d h u k ⌝ }
+// May a record of a kind stand directly below a holder of another, which itself belongs to `outer`, by the declarant's table?
+pub fn may_hold(below: &[[u8; KINDS]; KINDS], declarant: u32, holder: u32, outer: u32, kind: u32) -> bool
+    ensures { λ r. ⌜ r ≡ holdsIn (now (below .entry)) declarant holder outer kind ⌝ }
 {
-    let listed = if d == 3 { yes(pf, h, k) } else { yes(pj, h, k) };
-    if !listed {
+    if !yes(below, holder, kind) {
         return false;
     }
-    if h == 5 {
-        return block_of(d, k) == u;
+    if holder == 5 {
+        return block_of(declarant, kind) == outer;
     }
     true
 }
@@ -474,13 +503,27 @@ pub fn is_later(k: u32) -> bool
     }
 }
 
-pub fn is_value(k: u32) -> bool
+fn is_value(k: u32) -> bool
     ensures { λ r. ⌜ r ≡ isValue k ⌝ }
 {
     match k {
         7..=19 | 21..=23 | 25..=27 | 30..=43 | 53 | 57..=58 | 61 => true,
         _ => false,
     }
+}
+
+// Whether nothing ever stands below a record of this kind.
+pub fn opens_nothing(k: u32) -> bool
+    ensures { λ r. ⌜ r ≡ opensNothing k ⌝ }
+{
+    is_value(k)
+}
+
+// Whether a kind stands at most once under its parent.
+pub fn stands_once(k: u32) -> bool
+    ensures { λ r. ⌜ r ≡ standsOnce k ⌝ }
+{
+    is_value(k)
 }
 
 // A kind that is in the base.

@@ -1,0 +1,100 @@
+-- The places of the line are what the walk from byte i on makes of those noted so far.
+use Prim.Native.Nat.{ℕ, _+_, _≤_, _-_}
+use mathlib.Core.Path.{_≡_, refl, sym, ap₂, _∙_}
+use mathlib.Core.Logic.{⊎-elim}
+use mathlib.Core.List.{List}
+use native.Mathlib.Omega.{arith}
+use borrow.Author.Needs.{needs}
+use lib.ListN.{length, drop, length-set}
+use Rattle.dirf.specs.Bytes.{Text}
+use Rattle.dirf.specs.Lines.{clean}
+use Rattle.fields.specs.declared.Places.{Places}
+use Rattle.fields.specs.declared.Scanned.{Scanned}
+use Rattle.fields.specs.Places.{noPlaces, addPlace, placesFrom, placesOf, scanOf}
+use Rattle.fields.proofs.PlaceLaws.{Fifteen}
+use Rattle.fields.proofs.Walk.{left-on, left-stop, left-end, walk-bar, walk-on, walk-stop, walk-end}
+use Rattle.fields.proofs.scan.Statement.{statement}
+use Rattle.fields.proofs.scan.Tie as tie
+
+-- no more fields than bytes, so that their number fits
+abbrev Inv-loop : tie.InvT-loop
+Inv-loop s count₀ starts₀ lens₀ start₀ i₀ count starts lens start i =
+    let p : Places = record { count = count; starts = starts; lens = lens } in
+    ((i ≤ length s) × ((start ≤ i) × (count ≤ i)))
+    × (Fifteen p × ((length (clean s) ≡ i + length (clean (drop i s))) × (placesOf (clean s) ≡ placesFrom (clean (drop i s)) start i p)))
+
+abbrev μ-loop : tie.MeasureT-loop
+μ-loop s count₀ starts₀ lens₀ start₀ i₀ count starts lens start i = length s - i
+
+loop-holds : tie.Need-loop-holds Inv-loop μ-loop
+unfolding placesOf noPlaces
+loop-holds c = (omega arith, (record { starts = refl; lens = refl }, (omega arith, refl)))
+
+-- the bytes up to byte i are the line's, and no field is left to note
+done : (s : Text) (i start : ℕ) (p : Places) → length (clean s) ≡ i + length (clean (drop i s)) → length (clean (drop i s)) ≡ 0
+    → placesOf (clean s) ≡ placesFrom (clean (drop i s)) start i p → placesFrom (clean (drop i s)) start i p ≡ p
+    → _≡_ {A = Scanned} (record { len = i; places = p }) (scanOf s)
+unfolding scanOf
+done s i start p n z q e = let long : i ≡ length (clean s) = omega arith in ap₂ (λ x y. record { len = x; places = y }) long (sym (q ∙ e))
+
+loop-again : tie.Need-loop-again Inv-loop μ-loop
+unfolding addPlace
+loop-again c =
+    let l = c .before .before .before .before .before .loop in
+    let h = c .before .before .before .before .loop-test .taken in
+    let n = sym (c .before .before .ends-line .ensures) ∙ c .before .if1 .left in
+    let f = l .inv .1 .0 in
+    let less = left-on (c .before .before .before .before .before .before .before .args .s .now) (l .i) n h in
+    ⊎-elim
+    (λ w. (
+      omega (arith, w .7, w .10),
+      (
+        record { starts = rw (w .8, w .2 .ensures, length-set) (f .starts); lens = rw (w .9, w .5 .ensures, length-set) (f .lens) },
+        (omega (arith, w .10, l .inv .1 .1 .0, less),
+        l .inv .1 .1 .1 ∙ walk-bar _ (l .i) (l .start) _ n (w .0 .taken) h ∙ cc (w .2 .ensures, w .5 .ensures, w .7, w .8, w .9, w .10)),
+      ),
+    ))
+    (λ w. (
+      omega (arith, w .1, w .4),
+      (
+        record { starts = rw (w .2) (f .starts); lens = rw (w .3) (f .lens) },
+        (omega (arith, w .4, l .inv .1 .1 .0, less),
+        l .inv .1 .1 .1 ∙ walk-on _ (l .i) (l .start) _ n (w .0 .left) h ∙ cc (w .1, w .2, w .3, w .4)),
+      ),
+    ))
+    (c .if2 .came)
+
+returns : tie.Need-returns Inv-loop μ-loop
+returns c =
+    let l = c .before .before .before .before .loop in
+    let h = c .before .before .before .loop-test .taken in
+    let n = sym (c .before .ends-line .ensures) ∙ c .if1 .taken in
+    done _ (l .i) (l .start) _ (l .inv .1 .1 .0) (left-stop _ (l .i) n h) (l .inv .1 .1 .1) (walk-stop _ (l .i) (l .start) _ n h)
+
+returns-2 : tie.Need-returns-2 Inv-loop μ-loop
+returns-2 c =
+    let l = c .before .loop in
+    let h = c .loop-test .left in
+    done _ (l .i) (l .start) _ (l .inv .1 .1 .0) (left-end _ (l .i) h) (l .inv .1 .1 .1) (walk-end _ (l .i) (l .start) _ h)
+
+pub scan-spec : {M : Type 1} → statement M
+scan-spec =
+    tie.close
+    (tie.spec
+    Inv-loop
+    μ-loop
+    loop-holds
+    (λ c. omega arith)
+    (λ c κs. search needs)
+    returns
+    (λ c. sym (c .before .before .before .before .before .before .loop .inv .1 .0 .starts))
+    (λ c κs. search needs)
+    (λ c. sym (c .before .before .before .before .before .before .before .before .before .loop .inv .1 .0 .lens))
+    (λ c. omega arith)
+    (λ c κs. search needs)
+    (λ c. omega arith)
+    (λ c. omega arith)
+    (λ c. omega arith)
+    (λ c. omega arith)
+    loop-again
+    returns-2)
