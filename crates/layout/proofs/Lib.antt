@@ -4,3 +4,4 @@ pub mod Arms
 pub mod Search
 pub mod Laws
 pub mod Determined
+pub mod Edition2025

@@ -10,17 +10,16 @@ use Rattle.dirf.specs.Bytes.{every, some, isIn, lookup}
 use Rattle.dirf.specs.Row.{Row}
 use Rattle.dirf.specs.Edition as edition
 use Rattle.dirf.proofs.Bools.{and-left, and-right}
-
-abbrev pub isKind : ℕ → Bool
-isKind x = ltb x 74
+use Rattle.layout.specs.Tables.{kinds}
+use Rattle.layout.specs.LaidOut.{isKind}
 
 -- a kind, 0 included, or past the kinds
-pub by-kind : {P : Type 0} (k : ℕ) → (k < 74 → P) → (74 ≤ k → P) → P
+pub by-kind : {P : Type 0} (k : ℕ) → (k < kinds → P) → (kinds ≤ k → P) → P
 by-kind {P} k kind past = go (isKind k) refl
   where
     go : (b : Bool) → isKind k ≡ b → P
-    go true e = kind (ltb-true k 74 e)
-    go false e = past (ltb-false k 74 e)
+    go true e = kind (ltb-true k kinds e)
+    go false e = past (ltb-false k kinds e)
 
 module _ {A : Type 0} (test : A → Bool) (x : A) (xs : List A) (all : every test (x ∷ xs) ≡ true) where
   pub every-first : test x ≡ true
@@ -31,9 +30,9 @@ module _ {A : Type 0} (test : A → Bool) (x : A) (xs : List A) (all : every tes
   unfolding every
   every-rest = and-right (test x) (every test xs) all
 
-module _ (k : ℕ) (past : 74 ≤ k) where
+module _ (k : ℕ) (past : kinds ≤ k) where
   other : (x : ℕ) → isKind x ≡ true → eqb k x ≡ false
-  other x e = let l = ltb-true x 74 e in ne-eqb k x (λ q. omega arith)
+  other x e = let l = ltb-true x kinds e in ne-eqb k x (λ q. omega arith)
 
   pub some-past : {A : Type 0} (f : A → ℕ) (xs : List A) → every (λ x. isKind (f x)) xs ≡ true → some (λ x. eqb k (f x)) xs ≡ false
   unfolding some

@@ -409,13 +409,10 @@ pub fn name(names: &[u8; NAME_BYTES], k: u32) -> &[u8]
 pub fn kind_of(names: &[u8; NAME_BYTES], s: &[u8]) -> u32
     ensures { λ r. ⌜ r ≡ kindIn (namesIn (now (names .entry))) (now (s .entry)) ⌝ }
 {
-    let mut k = 1;
-    while k < KINDS {
-        // most identifiers differ in length already
-        if name_length(names, k) == s.len() {
-            if fields::same(name(names, k as u32), s) {
-                return k as u32;
-            }
+    let mut k: u32 = 1;
+    while (k as usize) < KINDS {
+        if fields::same(name(names, k), s) {
+            return k;
         }
         k += 1;
     }
@@ -430,7 +427,7 @@ pub fn field_count(rows: &[u8; ROW_BYTES], k: u32) -> usize
         return 0;
     }
     let n = rows[k as usize * RECORD];
-    if MOST_FIELDS < n as usize {
+    if (MOST_FIELDS as u8) < n {
         return MOST_FIELDS;
     }
     n as usize
@@ -469,7 +466,13 @@ fn yes(t: &[[u8; KINDS]; KINDS], h: u32, k: u32) -> bool
 }
 
 // May a record of a kind stand directly below a holder of another, which itself belongs to `outer`, by the declarant's table?
-pub fn may_hold(below: &[[u8; KINDS]; KINDS], declarant: u32, holder: u32, outer: u32, kind: u32) -> bool
+pub fn may_hold(
+    below: &[[u8; KINDS]; KINDS],
+    declarant: u32,
+    holder: u32,
+    outer: u32,
+    kind: u32,
+) -> bool
     ensures { λ r. ⌜ r ≡ holdsIn (now (below .entry)) declarant holder outer kind ⌝ }
 {
     if !yes(below, holder, kind) {

@@ -50,16 +50,20 @@ loop-again c =
       omega (arith, w .7, w .10),
       (
         record { starts = rw (w .8, w .2 .ensures, length-set) (f .starts); lens = rw (w .9, w .5 .ensures, length-set) (f .lens) },
-        (omega (arith, w .10, l .inv .1 .1 .0, less),
-        l .inv .1 .1 .1 ∙ walk-bar _ (l .i) (l .start) _ n (w .0 .taken) h ∙ cc (w .2 .ensures, w .5 .ensures, w .7, w .8, w .9, w .10)),
+        (
+          omega (arith, w .10, l .inv .1 .1 .0, less),
+          l .inv .1 .1 .1 ∙ walk-bar _ (l .i) (l .start) _ n (w .0 .taken) h ∙ cc (w .2 .ensures, w .5 .ensures, w .7, w .8, w .9, w .10),
+        ),
       ),
     ))
     (λ w. (
       omega (arith, w .1, w .4),
       (
         record { starts = rw (w .2) (f .starts); lens = rw (w .3) (f .lens) },
-        (omega (arith, w .4, l .inv .1 .1 .0, less),
-        l .inv .1 .1 .1 ∙ walk-on _ (l .i) (l .start) _ n (w .0 .left) h ∙ cc (w .1, w .2, w .3, w .4)),
+        (
+          omega (arith, w .4, l .inv .1 .1 .0, less),
+          l .inv .1 .1 .1 ∙ walk-on _ (l .i) (l .start) _ n (w .0 .left) h ∙ cc (w .1, w .2, w .3, w .4),
+        ),
       ),
     ))
     (c .if2 .came)

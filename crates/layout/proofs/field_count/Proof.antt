@@ -14,6 +14,7 @@ field-count-spec =
     (λ c. simp (le-ltb _ _ (c .if1 .taken)))
     (λ c. search needs)
     (λ c. search needs)
+    (λ c. search needs)
     (λ c. simp (lt-ltb _ _ (c .before .before .if1 .left), min-eq-left (le-of-lt (c .if2 .taken))))
     (λ c. search needs)
     (λ c. simp (lt-ltb _ _ (c .before .before .if1 .left), min-eq-right (c .if2 .left))))

@@ -4,16 +4,16 @@ use mathlib.Core.Path.{_≡_, sym, _∙_}
 use native.Mathlib.Omega.{arith}
 use borrow.Author.Needs.{needs}
 use Rattle.dirf.specs.Edition.{kindIn}
-use Rattle.layout.specs.Tables.{namesIn}
+use Rattle.layout.specs.Tables.{kinds, namesIn}
 use Rattle.layout.proofs.Search.{kindFrom, kind-from, kind-here, kind-on, kind-none}
 use Rattle.layout.proofs.kind_of.Statement.{statement}
 use Rattle.layout.proofs.kind_of.Tie as tie
 
 abbrev Inv-loop : tie.InvT-loop
-Inv-loop names s k₀ k = (k ≤ 74) × (kindIn (namesIn names) s ≡ kindFrom names s k)
+Inv-loop names s k₀ k = (k ≤ kinds) × (kindIn (namesIn names) s ≡ kindFrom names s k)
 
 abbrev μ-loop : tie.MeasureT-loop
-μ-loop names s k₀ k = 74 - k
+μ-loop names s k₀ k = kinds - k
 
 pub kind-of-spec : {M : Type 1} → statement M
 kind-of-spec =
@@ -22,6 +22,7 @@ kind-of-spec =
     Inv-loop
     μ-loop
     (λ c. (omega arith, kind-from (c .before .args .names .now) (c .before .args .s .now)))
+    (λ c. search needs)
     (λ c κs. search needs)
     (λ c κs. search needs)
     (λ c.

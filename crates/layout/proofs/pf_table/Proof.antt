@@ -1,12 +1,13 @@
 -- The constant is the table of what stands below what under a DECPF, by computing.
 use mathlib.Core.Path.{refl}
 use Rattle.dirf.specs.Bytes.{bytes-opens}
-use Rattle.layout.specs.Tables.{pfTable, belowTable, yes}
+use Rattle.dirf.specs.Edition.{edition-opens}
+use Rattle.layout.specs.Tables.{belowTable, yes}
 use Rattle.layout.proofs.pf_table.Statement.{statement}
 use Rattle.layout.proofs.pf_table.Tie as tie
 
 returns : tie.Need-returns
-unfolding pfTable belowTable yes bytes-opens
+unfolding belowTable yes bytes-opens edition-opens
 returns c = refl
 
 pub pf-table-spec : {M : Type 1} → statement M

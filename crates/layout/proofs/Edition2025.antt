@@ -1,0 +1,34 @@
+-- The edition of 2025 is laid out in tables, by computing.
+use Prim.Native.Nat.{ℕ}
+use mathlib.Core.Path.{_≡_, refl}
+use mathlib.Core.Bool.{Bool, true}
+use mathlib.Core.List.{List}
+use lib.Dec.{eqb}
+use Rattle.dirf.specs.Bytes.{every, bytes-opens}
+use Rattle.dirf.specs.Kinds.{DECPF}
+use Rattle.dirf.specs.Below.{Children, underDECPF, underDECPJ, below2025}
+use Rattle.dirf.specs.Edition.{edition2025, edition-opens}
+use Rattle.dirf.proofs.Bools.{if-cases}
+use Rattle.layout.specs.Tables.{nameIn, namesIn, nameTable, slotOf, concat, rowsIn, countIn, rowIn, byteIn, rowOf, formatOf, fillOf}
+use Rattle.layout.specs.Tables.{needOf, holdsOf, recordOf, rowBytesOf, formatByte, fillByte, needByte, holdsByte}
+use Rattle.layout.specs.LaidOut.{LaidOut, isKind}
+
+-- a test of the lists below holds if it holds of each declarant's
+each : (test : ℕ × List ℕ → Bool) → every test underDECPF ≡ true → every test underDECPJ ≡ true → (d : ℕ) → every test (below2025 d) ≡ true
+unfolding below2025
+each test f j d = if-cases (λ (t : Children). every test t ≡ true) (eqb d DECPF) (λ _. f) (λ _. j)
+
+pub laidOut2025 : LaidOut edition2025
+unfolding nameIn namesIn nameTable slotOf concat rowsIn countIn rowIn byteIn rowOf formatOf fillOf needOf holdsOf
+    recordOf rowBytesOf formatByte fillByte needByte holdsByte bytes-opens edition-opens
+laidOut2025 =
+    record {
+      named-kinds = refl;
+      laid-kinds = refl;
+      holders = each (λ r. isKind (r .0)) refl refl;
+      held = each (λ r. every isKind (r .1)) refl refl;
+      names = refl;
+      name = refl;
+      widths = refl;
+      records = λ after. refl;
+    }
