@@ -5,23 +5,15 @@
 #include <stdlib.h>
 #include <string.h>
 
+#include "../tests/makers/people.h"
+
 enum { HEAD_LINES = 4, LEAST_LINES = 5, MOST_LINES = 65536 };
 /* no line made here is longer */
 enum { LONGEST = 256 };
-enum { MONTHS = 13, CPF_DIGITS = 11, AMOUNT_DIGITS = 13 };
+enum { MONTHS = 13, AMOUNT_DIGITS = 13 };
 
-#define OPENING "Dirf|2025|2024|N||R6GP3ZA|\r\nRESPO|11144477735|ANA LIMA|11|33334444||||\r\n"
-
-static const char pay_head[] =
-    OPENING
-    "DECPJ|11222333000181|SERRA LTDA|0|11144477735|N|N|N|N|N|N|N|N||\r\n"
-    "IDREC|0561|\r\n";
-
-/* field 6 says that there is an SCP */
-static const char scp_head[] =
-    OPENING
-    "DECPJ|11222333000181|SERRA LTDA|0|11144477735|S|N|N|N|N|N|N|N||\r\n"
-    "SCP|11222333000181|SCP SERRA|\r\n";
+/* lines 1 and 2; the declarant and the first block follow */
+static const char opening[] = "Dirf|2025|2024|N||R6GP3ZA|\r\nRESPO|11144477735|ANA LIMA|11|33334444||||\r\n";
 
 /* 60 bytes, the most that a name may have */
 static const char long_name[] = "MARIA APARECIDA DOS SANTOS ALBUQUERQUE DE OLIVEIRA E BARROSO";
@@ -63,10 +55,16 @@ static void put_amount(input *in)
 }
 
 /* Ever greater CPFs. */
+static void put_cpf(input *in, unsigned number)
+{
+    make_cpf(number + 1, (char *)in->bytes + in->len);
+    in->len += CPF_SIZE;
+}
+
 static void put_beneficiary(input *in, unsigned number, const char *name, const char *birth)
 {
     put(in, "BPFDEC|");
-    put_digits(in, number + 1, CPF_DIGITS);
+    put_cpf(in, number);
     put(in, "|");
     put(in, name);
     put(in, "|");
@@ -118,17 +116,22 @@ static void put_long(input *in, unsigned i)
 static void put_scp(input *in, unsigned i)
 {
     put(in, "BPFSCP|");
-    put_digits(in, i + 1, CPF_DIGITS);
+    put_cpf(in, i);
     put(in, "|ANA||\r\n");
 }
 
-/* How each shape begins, and its line number i after that. */
+/* The line that opens each shape's block, and its line number i after that. */
 typedef struct {
-    const char *name, *head;
+    const char *name, *block;
+    int has_scp;
     void (*put_line)(input *in, unsigned i);
 } shape;
 
-static const shape shapes[] = {{"short", pay_head, put_short}, {"long", pay_head, put_long}, {"scp", scp_head, put_scp}};
+static const shape shapes[] = {
+    {"short", "IDREC|0561|\r\n", 0, put_short},
+    {"long", "IDREC|0561|\r\n", 0, put_long},
+    {"scp", "SCP|11222333000181|SCP SERRA|\r\n", 1, put_scp},
+};
 
 static const shape *shape_named(const char *name)
 {
@@ -156,7 +159,9 @@ input input_make(const char *lines, const char *shape_name, const char *end)
     input in = {malloc(count * LONGEST), 0};
     if (in.bytes == NULL)
         stop("no memory");
-    put(&in, made->head);
+    put(&in, opening);
+    in.len += make_declarant(1, made->has_scp, (char *)in.bytes + in.len);
+    put(&in, made->block);
     for (unsigned i = 0; i < count - HEAD_LINES - 1; i++)
         made->put_line(&in, i);
     /* without its bar the last line is refused with 8 */

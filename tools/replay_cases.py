@@ -3,7 +3,8 @@
 
 Nothing here asks the program. Of a file the number, the line and the field are written beside it, and the indents of its lines say which
 line is the parent of which; of docs/TOUR.md's file the page says it. Of a record's fields ROWS has what the sources print, and each case
-says what it breaks. The layout of a case is in docs/REPLAY.md. Run it from anywhere; it writes the same bytes every time.
+says what it breaks; all else in it is right, check digits and flags too, since makers.py makes them. The layout of a case is in
+docs/REPLAY.md. Run it from anywhere; it writes the same bytes every time.
 """
 import os
 import struct
@@ -11,11 +12,12 @@ import sys
 
 # no folder of compiled modules is left in the repository
 sys.dont_write_bytecode = True
+import makers
 import tour as tour_page
 
 ROOT = os.path.dirname(os.path.dirname(os.path.abspath(__file__)))
 END = "\r\n"
-CPF, CNPJ = "11144477735", "11222333000181"
+CPF, CNPJ, OTHER_CNPJ = makers.PERSON, makers.COMPANY, makers.cnpj(222223330001)
 
 # list 2.2 of document 004, DECPF before DECPJ
 NAMES = """
@@ -63,12 +65,12 @@ BELOW = {
 BLOCKS = {"": "BPFDEC BPJDEC", "FCI": "BPFFCI BPJFCI", "PROC": "BPFPROC BPJPROC", "RRA": "BPFRRA", "SCP": "BPFSCP BPJSCP"}
 ORDER = "IDREC FCI PROC RRA SCP".split()
 
-# a line of each record that keeps every rule; value records besides, below
+# a line of each record that keeps every rule; value records besides, below. The declarants' are those of a file without blocks
 LINE = {
     "Dirf": "Dirf|2025|2024|N||R6GP3ZA|",
     "RESPO": f"RESPO|{CPF}|ANA LIMA|11|33334444||||",
-    "DECPF": f"DECPF|{CPF}|ANA LIMA|N|N|N|S|N|||N|||||",
-    "DECPJ": f"DECPJ|{CNPJ}|SERRA LTDA|0|{CPF}|N|N|N|N|N|N|N|N||",
+    "DECPF": makers.declarant("DECPF"),
+    "DECPJ": makers.declarant("DECPJ"),
     "IDREC": "IDREC|0561|",
     "BPFDEC": f"BPFDEC|{CPF}|ANA LIMA||N|N|",
     "BPJDEC": f"BPJDEC|{CNPJ}|SERRA LTDA|",
@@ -115,15 +117,22 @@ def words(*items):
     return " ".join(str(item) for item in items if item != "")
 
 
+def line_of(name, records):
+    """The line of a record, in a file that has these records: a declarant's flags follow from them."""
+    return makers.declarant(name, records) if name in makers.FLAGS else LINE.get(name, name)
+
+
 def lines_of(tree):
     """The lines of a tree, and of each the number of the line above it that is indented less, 0 where none is."""
     lines, open_lines = [], []
-    for row in tree.strip("\n").split("\n"):
+    rows = tree.strip("\n").split("\n")
+    records = {row.lstrip(" ").split("|")[0] for row in rows}
+    for row in rows:
         text = row.lstrip(" ")
         depth = len(row) - len(text)
         open_lines = [(d, n) for d, n in open_lines if d < depth]
         # a name stands for its line above; = means the text as it is
-        text = text[1:] if text.startswith("=") else LINE.get(text, text)
+        text = text[1:] if text.startswith("=") else line_of(text, records)
         lines.append((text, open_lines[-1][1] if open_lines else 0))
         open_lines.append((depth, len(lines)))
     return lines
@@ -162,17 +171,17 @@ def write(kind, cells, breach, field=0, room=300, contents=None, lengths=None):
     case("W", given, words(breach, field, len(text), 1, text.encode("latin-1").hex()))
 
 
-def cells_of(name):
-    return LINE[name].split("|")[:-1]
+def cells_of(name, records=()):
+    return line_of(name, records).split("|")[:-1]
 
 
-def with_cell(name, field, cell):
-    cells = cells_of(name)
+def with_cell(name, field, cell, records=()):
+    cells = cells_of(name, records)
     return cells[: field - 1] + [cell] + cells[field:]
 
 
-def with_field(name, field, cell):
-    return "|".join(with_cell(name, field, cell)) + "|"
+def with_field(name, field, cell, records=()):
+    return "|".join(with_cell(name, field, cell, records)) + "|"
 
 
 # ---- files
@@ -195,7 +204,7 @@ def marked():
     check(SIX, 2, 7, after="\n")
     check(SIX.replace("Dirf\nRESPO", "=DIRF|2025|2024|N||R6GP3ZA|\nRESPO"), 9, 1, 1)
     check(SIX.replace("\nFIMDirf", "\n=FIMDirf"), 8, 6)
-    check(SIX.replace("DECPF", with_field("DECPF", 8, "S")), 19, 3, 9)
+    check(SIX.replace("DECPF", with_field("DECPF", 8, "S", ["SCP"])), 19, 3, 9)
     check(SIX.replace("FIMDirf", "    BPFSCP\nFIMDirf"), 20, 6, 2)
 
 
@@ -396,17 +405,19 @@ def orders():
            ("BPFRRA", "  RRA\n    IDREC\n      ")]
     for name, lead in two:
         size = len(cells_of(name)[1])
-        same = with_field(name, 2, "5" * size)
+        fives = int("5" * (size - makers.CHECK_SIZE))
+        same, more, less = [with_field(name, 2, makers.key(size, serial)) for serial in (fives, fives + 1, fives - 1)]
         indent = " " * (len(lead) - lead.rfind("\n") - 1)
         line = 5 + lead.count("\n")
-        check(pj(lead + same + "\n" + indent + with_field(name, 2, "5" * (size - 1) + "6") + "\nFIMDirf"), 0, line + 1)
+        check(pj(lead + same + "\n" + indent + more + "\nFIMDirf"), 0, line + 1)
         check(pj(lead + same + "\n" + indent + same), 20, line, 2)
-        check(pj(lead + same + "\n" + indent + with_field(name, 2, "5" * (size - 1) + "4")), 20, line, 2)
+        check(pj(lead + same + "\n" + indent + less), 20, line, 2)
         # compared as bytes with their zeros, from the first byte on
-        check(pj(lead + same + "\n" + indent + with_field(name, 2, "4" + "9" * (size - 1))), 20, line, 2)
+        nines = int("4" + "9" * (size - makers.CHECK_SIZE - 1))
+        check(pj(lead + same + "\n" + indent + with_field(name, 2, makers.key(size, nines))), 20, line, 2)
     for name in ("IDREC", "FCI", "SCP"):
         size = len(cells_of(name)[1])
-        one, other = with_field(name, 2, "0" * (size - 1) + "1"), with_field(name, 2, "0" * (size - 1) + "2")
+        one, other = with_field(name, 2, makers.key(size, 1)), with_field(name, 2, makers.key(size, 2))
         check(pj("  " + one + "\n  " + other + "\nFIMDirf"), 0, 6)
         check(pj("  " + one + "\n  " + one), 20, 5, 2)
         check(pj("  " + other + "\n  " + one), 20, 5, 2)
@@ -425,7 +436,7 @@ def orders():
     check(pj("  RRA|1|1|||||\n  RRA|1||||||"), 20, 5, 2)
     check(pj("  RRA|1||||||\n  RRA|1||||||"), 20, 5, 2)
     # the one before need not be the line before
-    low, high = with_field("BPFDEC", 2, "00000000001"), with_field("BPFDEC", 2, "00000000002")
+    low, high = with_field("BPFDEC", 2, makers.cpf(1)), with_field("BPFDEC", 2, makers.cpf(2))
     check(pj(f"  IDREC\n    {high}\n      RTRT\n      RIO\n    {low}"), 20, 8, 2)
     check(pj(f"  IDREC\n    {low}\n      RTRT\n    {high}\n      RTRT\nFIMDirf"), 0, 9)
     check(pj(f"  IDREC\n    {low}\n  IDREC"), 20, 6, 2)
@@ -433,17 +444,17 @@ def orders():
     check(pj("  PROC\n    IDREC\n      BPFPROC\n        RTRT\n  PROC"), 20, 8, 2)
     # the order starts afresh under a new parent
     check(pj(f"  IDREC\n    {high}\n  IDREC|0588|\n    {low}\n  IDREC|1708|\n    {low}\nFIMDirf"), 0, 10)
-    funds = "  IDREC|9999|\n  FCI\n    IDREC\n  FCI|22222333000181|B|\n    IDREC\n"
+    funds = f"  IDREC|9999|\n  FCI\n    IDREC\n  FCI|{OTHER_CNPJ}|B|\n    IDREC\n"
     others = "  PROC\n    IDREC\n      BPFPROC\n  RRA\n    IDREC\n      BPFRRA\n"
     check(pj(funds + others + "FIMDirf"), 0, 15)
-    check(pj("  SCP\n    BPFSCP\n  SCP|22222333000181|B|\n    BPFSCP\nFIMDirf"), 0, 8)
+    check(pj(f"  SCP\n    BPFSCP\n  SCP|{OTHER_CNPJ}|B|\n    BPFSCP\nFIMDirf"), 0, 8)
     check(pj("  IDREC|0588|\n  FCI\n    IDREC|0561|\n    IDREC|0561|"), 20, 7, 2)
     # 21: once under one beneficiary, and again under the next
     for who, lead, depth in (("BPFDEC", "  IDREC\n    ", 4), ("BPFSCP", "  SCP\n    ", 4), ("BPFRRA", "  RRA\n    IDREC\n      ", 6),
     ("BPFPROC", "  PROC\n    IDREC\n      ", 6)):
         value = BELOW["DECPJ"][who][0]
         line = 6 + lead.count("\n")
-        next_one = with_field(who, 2, "99999999999")
+        next_one = with_field(who, 2, makers.cpf(999999999))
         deep = " " * (depth + 2)
         check(pj(f"{lead}{who}\n{deep}{value}\n{deep}{value}"), 21, line, 1)
         check(pj(f"{lead}{who}\n{deep}{value}\n{' ' * depth}{next_one}\n{deep}{value}\nFIMDirf"), 0, line + 2)
@@ -586,6 +597,11 @@ ROWS = {
 MONTHS = {"RTRT": (2, 8, 14), "QTMESES": (2, 13)}
 
 
+def ones(size):
+    """So many digits, the check digits of a CPF or CNPJ right."""
+    return makers.key(size, makers.serial_of("1" * size))
+
+
 def taken(row):
     """Contents that a row takes, and contents that it refuses, each with the number."""
     head, _, listed = row.partition("=")
@@ -625,7 +641,7 @@ def taken(row):
         return
     filling = "A" if kind == "C" else "1"
     if fill == "F":
-        yield filling * size, 0
+        yield ones(size) if kind == "N" else filling * size, 0
         yield filling * (size - 1), 15
     yield filling * (size + 1), 15
     if holds == "t":
@@ -636,7 +652,7 @@ def taken(row):
         return
     if holds == "e":
         for count in (11, 14):
-            yield "1" * count, 0
+            yield ones(count), 0
         for count in (1, 10, 12, 13):
             yield "1" * count, 15
         return
@@ -746,7 +762,7 @@ def writer_order():
     write(KIND["IDREC"], with_cell("IDREC", 2, "056"), 15, 2, room=0)
     write(KIND["DECPF"], with_cell("DECPF", 8, "S"), 19, 9, room=0)
     # the longest line that a record can have
-    longest = ["RRA", "2", "P" * 20, "2", "1" * 14, "N" * 150, "9" * 13]
+    longest = ["RRA", "2", "P" * 20, "2", ones(14), "N" * 150, "9" * 13]
     write(KIND["RRA"], longest, 0)
     check(pj("  " + "|".join(longest) + "|\nFIMDirf"), 0, 5)
     # place and order are the file's concern
@@ -801,10 +817,10 @@ def wrong_checkers():
     masked = with_field("BPFDEC", 2, "529.982.247-25")
     check(SIX.replace("RESPO", with_field("RESPO", 2, "111.444.777-35")), 14, 2, 2)
     check(pf("  IDREC\n    BPFDEC\n      RTRT\n    " + masked + "\n      RTPO\nFIMDirf"), 14, 7, 2)
-    check(pf("  IDREC\n    " + with_field("BPFDEC", 2, "52998224725") + "\n  IDREC|0588|\n    BPFDEC\nFIMDirf"), 0, 8)
+    check(pf("  IDREC\n    " + with_field("BPFDEC", 2, makers.cpf(529982247)) + "\n  IDREC|0588|\n    BPFDEC\nFIMDirf"), 0, 8)
     check(pj("  PROC\n    IDREC\n      BPFDEC\nFIMDirf"), 12, 6, 1)
     check(pj("  PROC|1|9|||||\n  PROC|1|10|||||\nFIMDirf"), 20, 5, 2)
-    check(pf("  SCP\n    " + with_field("BPFSCP", 2, "00000000191") + "\n    BPFSCP\nFIMDirf"), 0, 7)
+    check(pf("  SCP\n    " + with_field("BPFSCP", 2, makers.cpf(1)) + "\n    BPFSCP\nFIMDirf"), 0, 7)
     check(SIX.replace("FIMDirf", "    BPFSCP\nFIMDirf"), 20, 6, 2, room=5, spare=0)
 
 
@@ -838,7 +854,7 @@ def parent_among(opened, name):
 
 # for each record that can be open in that file one that stands below it, with a key that no other passes
 PROBES = [LINE["RTIRF"], LINE["RISCP"], "IDREC|9999|", "PROC|3|9|||||"]
-PROBES += [with_field(name, 2, "9" * 14) for name in ("BPJDEC", "BPJPROC", "BPJSCP", "SCP")]
+PROBES += [with_field(name, 2, makers.cnpj(999999999999)) for name in ("BPJDEC", "BPJPROC", "BPJSCP", "SCP")]
 
 
 def tour_open(before, opened):
@@ -877,7 +893,7 @@ def tour_before(lines, line, row):
     if row.rule == 21:
         check_lines(before + 2 * [(text, parent)], 21, line + 1, 1)
     elif row.rule == 20 and row.against == 0:
-        least = "1" if name in ("PROC", "RRA") else "0" * len(key)
+        least = "1" if name in ("PROC", "RRA") else makers.key(len(key), 0)
         check_lines(before + [(with_key(text, least), parent)], 1, line + 1)
     elif row.rule == 20:
         there, above = lines[row.against - 1]
@@ -885,7 +901,7 @@ def tour_before(lines, line, row):
         if row.against >= line or (there, above) != (name, parent):
             tour_page.stop(f"line {line}: line {row.against} is not one before it of its kind under its parent")
         check_lines(before + [(with_key(text, key), parent)], 20, line, 2)
-        check_lines(before + [(with_key(text, str(int(key) + 1).zfill(len(key))), parent)], 1, line + 1)
+        check_lines(before + [(with_key(text, makers.key(len(key), makers.serial_of(key) + 1)), parent)], 1, line + 1)
 
 
 def tour():
