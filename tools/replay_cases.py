@@ -2,9 +2,9 @@
 """Writes stdin, a run of cases, and stdout, what document 01 demands for each, to crates/replay or to the folder that is named.
 
 Nothing here asks the program. Of a file the number, the line and the field are written beside it, and the indents of its lines say which
-line is the parent of which; of docs/TOUR.md's file the page says it. Of a record's fields ROWS has what the sources print, and each case
-says what it breaks; all else in it is right, check digits and flags too, since makers.py makes them. The layout of a case is in
-docs/REPLAY.md. Run it from anywhere; it writes the same bytes every time.
+line is the parent of which; of docs/TOUR.md's file the page says it. Records, rows and lists are those of layout.txt, and each case says
+what it breaks; all else in it is right, check digits and flags too, since makers.py makes them. The layout of a case is in docs/REPLAY.md.
+Run it from anywhere; it writes the same bytes every time.
 """
 import os
 import struct
@@ -12,6 +12,7 @@ import sys
 
 # no folder of compiled modules is left in the repository
 sys.dont_write_bytecode = True
+import layout
 import makers
 import tour as tour_page
 
@@ -19,51 +20,31 @@ ROOT = os.path.dirname(os.path.dirname(os.path.abspath(__file__)))
 END = "\r\n"
 CPF, CNPJ, OTHER_CNPJ = makers.PERSON, makers.COMPANY, makers.cnpj(222223330001)
 
-# list 2.2 of document 004, DECPF before DECPJ
-NAMES = """
-Dirf RESPO DECPF DECPJ IDREC BPFDEC RTRT RTPO RTDP RTDS RTIRF CJAC CJAA ESRT ESPO ESDP ESDS ESIR ESDJ INFPC RTPP RTFA RTSP RTEP
-ESPP ESFA ESSP ESEP INFPA RTPA ESPA RIDAC RIIRP RIAP RIMOG RIP65 RIBMR RICAP RIRPC RIL96 RIPTS RIJMRE RIO BPJDEC VPEIM RIMUN RISEN
-FCI BPFFCI BPJFCI PROC BPFPROC RIRSR BPJPROC RRA BPFRRA DAJUD QTMESES SCP BPFSCP RISCP BPJSCP PSE OPSE TPSE RTPSE DTPSE RDTPSE
-RPDE BRPDE VRPDE INF FIMDirf
-""".split()
-KIND = {name: i + 1 for i, name in enumerate(NAMES)}
-LATER = "INFPC RTEP ESEP INFPA VPEIM RIMUN RISEN PSE OPSE TPSE RTPSE DTPSE RDTPSE RPDE BRPDE VRPDE INF".split()
-ANNUAL = "RIL96 RIPTS RIJMRE RIRSR".split()
-MONTHLY = """
-RTRT RTPO RTPP RTFA RTSP RTDP RTDS RTPA RTIRF CJAA CJAC ESRT ESPO ESPP ESFA ESSP ESDP ESDS ESPA ESIR ESDJ RIP65 RIDAC RIIRP RIAP
-RIMOG RIRPC RIBMR RICAP RISCP DAJUD
-""".split()
-VALUES = MONTHLY + ANNUAL + ["RIO", "QTMESES"]
+# names, rows and lists are not typed again: tools/layout.txt has them
+LAYOUT = layout.read()
+KIND, LATER, ROWS = LAYOUT.kinds, LAYOUT.later, LAYOUT.rows
 
-# the value records of each beneficiary, as document 004's lists 2.1 and 2.2 have them
-BPFDEC = "RTRT RTPO RTDP RTDS RTIRF CJAC CJAA ESRT ESPO ESDP ESDS ESIR ESDJ RIDAC RIIRP RIAP RIP65 RIJMRE RIO".split()
-BPFPROC = """
-RTRT RTPO RTDP RTDS RTIRF CJAC CJAA ESRT ESPO ESDP ESDS ESIR ESDJ RTPP RTFA RTSP ESPP ESFA ESSP RTPA ESPA RIMOG RIJMRE RIRSR
-""".split()
-BELOW = {
-    "DECPF": {
-        "BPFDEC": BPFDEC,
-        "BPJDEC": ["RTRT", "RTIRF"],
-        "BPFRRA": "RTRT RTPO RTIRF DAJUD QTMESES RIJMRE".split(),
-        "BPFSCP": ["RISCP"],
-        "BPJSCP": ["RISCP"],
-    },
-    "DECPJ": {
-        "BPFDEC": BPFDEC + "RIMOG RIBMR RICAP RIRPC RIL96 RIPTS".split(),
-        "BPJDEC": ["RTRT", "RTIRF"],
-        "BPFFCI": "RTRT RTIRF CJAC CJAA ESRT ESIR ESDJ RIP65 RIMOG RICAP RIO".split(),
-        "BPJFCI": ["RTRT", "RTIRF"],
-        "BPFPROC": BPFPROC,
-        "BPJPROC": "RTRT RTIRF RIRSR".split(),
-        "BPFRRA": "RTRT RTPO RTIRF RIMOG RIP65 RIJMRE DAJUD QTMESES".split(),
-        "BPFSCP": ["RISCP"],
-        "BPJSCP": ["RISCP"],
-    },
-}
 
-# the beneficiaries of each block, the declarant's own under ""
-BLOCKS = {"": "BPFDEC BPJDEC", "FCI": "BPFFCI BPJFCI", "PROC": "BPFPROC BPJPROC", "RRA": "BPFRRA", "SCP": "BPFSCP BPJSCP"}
-ORDER = "IDREC FCI PROC RRA SCP".split()
+def alike(name):
+    """The records that have the rows of this one, the identifier aside."""
+    return [other for other, rows in ROWS.items() if rows[1:] == ROWS[name][1:]]
+
+
+MONTHLY, ANNUAL = alike("RTRT"), alike("RIL96")
+# one of each group of records that have their rows together
+SAMPLES = [name for name in ROWS if name not in MONTHLY[1:] + ANNUAL[1:]]
+
+# DECPJ's list, which has every record that DECPF's has; below an IDREC it hangs on what that belongs to
+HELD = LAYOUT.below["DECPJ"]
+ORDER, PEOPLE = HELD["DECPJ"], HELD["IDREC"] + HELD["SCP"]
+# the beneficiaries of each block, whose names end as its own does, the declarant's own under ""
+BLOCKS = {block: [who for who in PEOPLE if who.endswith(block or "DEC")] for block in ["", *ORDER[1:]]}
+
+# the value records of each beneficiary
+BELOW = {declarant: {who: names for who, names in held.items() if who in PEOPLE} for declarant, held in LAYOUT.below.items()}
+# what a person may declare of a BPFDEC comes first in a company's file too
+BELOW["DECPJ"]["BPFDEC"] = sorted(BELOW["DECPJ"]["BPFDEC"], key=lambda name: name not in BELOW["DECPF"]["BPFDEC"])
+VALUES = MONTHLY + ANNUAL + [name for name in ROWS if name not in MONTHLY + ANNUAL and any(name in HELD[who] for who in PEOPLE)]
 
 # a line of each record that keeps every rule; value records besides, below. The declarants' are those of a file without blocks
 LINE = {
@@ -345,7 +326,7 @@ def places():
     # the beneficiaries of one block, below an IDREC of another
     for tree, block in ((pj, ""), (pj, "FCI"), (pj, "PROC"), (pj, "RRA"), (pf, ""), (pf, "RRA")):
         for other in BLOCKS:
-            for name in BLOCKS[other].split():
+            for name in BLOCKS[other]:
                 lead = "  IDREC\n    " if block == "" else "  " + block + "\n    IDREC\n      "
                 line = 5 if block == "" else 6
                 if other == block:
@@ -567,33 +548,10 @@ def pairs():
     check(pj("  IDREC\n    BPFDEC\n      RTRT\n    " + with_field("BPFDEC", 2, "1114447773") + "\n      RTRT"), 15, 7, 2)
 
 
-# ---- the fields of each record: C, N or D; F(ixed) or V(ariable) and the size; ! obligatory; and what it holds: a(mount), m(onth
-# count), d(dd), t(elephone), e(leven or fourteen digits), or = and the valid values. DECPF field 8 as S is the conditions' matter.
-ROWS = {
-    "Dirf": "CF4! NF4!=2025 NF4!=2024 CF1!=N,S NF12 CF7!=R6GP3ZA",
-    "RESPO": "CF5! NF11! CV60! NF2!d NV9!t NV6 NV9t CV50",
-    "DECPF": "CF5! NF11! CV60! CF1!=N,S CF1!=N,S CF1!=N,S CF1!=N,S CF1!=N DF8 NF1=1,2 CF1!=N,S DF8 NF1=0,1 NF11 CV60",
-    "DECPJ": "CF5! NF14! CV150! NF1!=0,1,2,3,4,8 NF11! CF1!=N,S CF1!=N,S CF1!=N,S CF1!=N,S CF1!=N,S CF1!=N,S CF1!=N,S CF1!=N,S DF8",
-    "IDREC": "CF5! NF4!",
-    "BPFDEC": "CF6! NF11! CV60! DF8 CF1!=N,S CF1!=N,S",
-    "BPJDEC": "CF6! NF14! CV150!",
-    "FCI": "CF3! NF14! CV150!",
-    "BPFFCI": "CF6! NF11! CV60! DF8",
-    "BPJFCI": "CF6! NF14! CV150!",
-    "PROC": "CF4! NF1!=1,2,3 CV20! NF1=1,2 NV14e CV150 NV13a",
-    "BPFPROC": "CF7! NF11! CV60! DF8",
-    "BPJPROC": "CF7! NF14! CV150!",
-    "RRA": "CF3! NF1!=1,2 CV20 NF1=1,2 NV14e CV150 NV13a",
-    "BPFRRA": "CF6! NF11! CV60! CV50 DF8 CF1!=N,S",
-    "RTRT": "CV5!" + " NV13a" * 13,
-    "RIL96": "CV6! NV13!a",
-    "RIO": "CF3! NV13!a CV60!",
-    "QTMESES": "CF7!" + " NV4m" * 12,
-    "SCP": "CF3! NF14! CV150!",
-    "BPFSCP": "CF6! NF11! CV60! NV4",
-    "BPJSCP": "CF6! NF14! CV150! CV4",
-    "FIMDirf": "CF7!",
-}
+# ---- the fields of each record
+
+
+# of fields that are alike these are tried
 MONTHS = {"RTRT": (2, 8, 14), "QTMESES": (2, 13)}
 
 
@@ -604,14 +562,8 @@ def ones(size):
 
 def taken(row):
     """Contents that a row takes, and contents that it refuses, each with the number."""
-    head, _, listed = row.partition("=")
-    kind, fill, rest = head[0], head[1], head[2:]
-    size = int("".join(c for c in rest if c.isdigit()))
-    holds = rest[-1] if rest[-1] in "amdte" else ""
-    if "!" in rest:
-        yield "", 13
-    else:
-        yield "", 0
+    kind, size, holds, values = row.format, row.size, row.holds, row.values
+    yield "", 13 if row.need == "obligatory" else 0
     if kind == "D":
         for day in "19000101 20991231 20240229 20000229 20240131 20240430 20241231".split():
             yield day, 0
@@ -629,8 +581,7 @@ def taken(row):
         for byte in "x/: -":
             yield (byte + "1" * 20)[:size], 14
         yield "1" * (size - 1) + "\xb2", 14
-    if listed:
-        values = listed.split(",")
+    if values:
         for value in values:
             yield value, 0
         yield "0" * size if kind == "N" and "0" not in values else "9" * size, 18
@@ -640,33 +591,33 @@ def taken(row):
         yield values[0] + "1", 15
         return
     filling = "A" if kind == "C" else "1"
-    if fill == "F":
+    if row.fill == "fixed":
         yield ones(size) if kind == "N" else filling * size, 0
         yield filling * (size - 1), 15
     yield filling * (size + 1), 15
-    if holds == "t":
+    if holds == "telephone":
         yield "11111111", 0
         yield "111111111", 0
         yield "1111111", 15
         yield "011111111", 0
         return
-    if holds == "e":
+    if holds == "cpfOrCnpj":
         for count in (11, 14):
             yield ones(count), 0
         for count in (1, 10, 12, 13):
             yield "1" * count, 15
         return
-    if fill == "V":
+    if row.fill == "variable":
         yield filling, 0
         yield filling * size, 0
-    if holds in ("a", "m"):
+    if holds in ("amount", "months"):
         yield "9" * size, 0
         yield "0", 16
         yield "0" + "1" * (size - 1), 16
         yield "0" * (size + 1), 15
         yield "-1", 14
         yield "1,00", 14
-    elif holds == "d":
+    elif holds == "ddd":
         yield "01", 16
         yield "00", 16
         yield "10", 0
@@ -679,10 +630,13 @@ def taken(row):
 def field_rules():
     """Every row, through the line writer: all of its contents where the row is new, else the first for each number."""
     known = set()
-    for name, rows in ROWS.items():
-        for field, row in enumerate(rows.split(), 1):
+    for name in SAMPLES:
+        for field, row in enumerate(ROWS[name], 1):
             if field == 1 or (name in MONTHS and field not in MONTHS[name]):
                 continue
+            # S in this one is the conditions' matter
+            if (name, field) == ("DECPF", 8):
+                row = row._replace(values=("N",))
             given = set()
             for cell, breach in taken(row):
                 if row in known and breach in given:
@@ -697,11 +651,10 @@ def identifier_rules():
     for name in LINE:
         write(KIND[name], cells_of(name), 0)
         write(KIND[name], with_cell(name, 1, "X" * len(name)), 18, 1)
-        size = 5 if name in MONTHLY else 6 if name in ANNUAL else len(name)
-        write(KIND[name], with_cell(name, 1, "X" * (size + 1)), 15, 1)
+        write(KIND[name], with_cell(name, 1, "X" * (ROWS[name][0].size + 1)), 15, 1)
     for name in ("Dirf", "RTRT", "RIJMRE", "RIO", "FIMDirf"):
         write(KIND[name], with_cell(name, 1, ""), 13, 1)
-        write(KIND[name], with_cell(name, 1, name[:-1]), 18 if name in MONTHLY + ANNUAL else 15, 1)
+        write(KIND[name], with_cell(name, 1, name[:-1]), 18 if ROWS[name][0].fill == "variable" else 15, 1)
     write(KIND["RTRT"], with_cell("RTRT", 1, "RTPO"), 18, 1)
     write(KIND["Dirf"], with_cell("Dirf", 1, "DIRF"), 18, 1)
     for byte in "|\r\n":
@@ -735,8 +688,8 @@ def writer_order():
     for kind in [0, 74, 75, 255, 256, 261, 65536 + 5, 2**31, 2**32 - 1] + [KIND[name] for name in LATER]:
         write(kind, cells, 22)
         write(kind, [], 22, room=0)
-    for name, rows in ROWS.items():
-        count = len(rows.split())
+    for name in SAMPLES:
+        count = len(ROWS[name])
         write(KIND[name], [], 11)
         write(KIND[name], ["A"] * (count + 1), 11)
         write(KIND[name], ["A"] * (count - 1), 11)
@@ -831,14 +784,10 @@ def check_lines(lines, breach, line, field=0):
     check_bytes("".join(text + END for text, _ in lines), lines, breach, line, field)
 
 
-# DECPJ's list; below an IDREC it hangs on what that belongs to
-HELD = {"DECPJ": ORDER, "FCI": ["IDREC"], "PROC": ["IDREC"], "RRA": ["IDREC"], "SCP": BLOCKS["SCP"].split(), **BELOW["DECPJ"]}
-
-
 def may_hold(holder, outer, name):
     """Whether a record may stand directly below an open one, which itself stands below an outer one."""
     if holder == "IDREC":
-        return name in BLOCKS.get("" if outer == "DECPJ" else outer, "").split()
+        return name in BLOCKS.get("" if outer == "DECPJ" else outer, [])
     return name in HELD.get(holder, [])
 
 
@@ -880,7 +829,7 @@ def with_key(text, key):
     return "|".join([cells[0], key] + cells[2:])
 
 
-KEYED = ORDER + " ".join(BLOCKS.values()).split()
+KEYED = ORDER + PEOPLE
 
 
 def tour_before(lines, line, row):
