@@ -560,71 +560,89 @@ def ones(size):
     return makers.key(size, makers.serial_of("1" * size))
 
 
-def taken(row):
-    """Contents that a row takes, and contents that it refuses, each with the number."""
-    kind, size, holds, values = row.format, row.size, row.holds, row.values
-    yield "", 13 if row.need == "obligatory" else 0
-    if kind == "D":
-        for day in "19000101 20991231 20240229 20000229 20240131 20240430 20241231".split():
-            yield day, 0
-        for day in "18991231 21000101 20230229 19000229 20240230 20240431 20240001 20241301 20240100 20240132 00000000 99999999".split():
-            yield day, 17
-        for bad in ("2024022A", "2024/2/9", "29-02-2024", "2024 229"):
-            yield bad, 14
-        for bad in ("2024022", "202402290", "240229"):
-            yield bad, 15
-        return
-    if kind == "C":
+def dates_taken():
+    for day in "19000101 20991231 20240229 20000229 20240131 20240430 20241231".split():
+        yield day, 0
+    for day in "18991231 21000101 20230229 19000229 20240230 20240431 20240001 20241301 20240100 20240132 00000000 99999999".split():
+        yield day, 17
+    for bad in ("2024022A", "2024/2/9", "29-02-2024", "2024 229"):
+        yield bad, 14
+    for bad in ("2024022", "202402290", "240229"):
+        yield bad, 15
+
+
+def bytes_taken(row):
+    if row.format == "C":
         for byte in "|\r\n":
-            yield ("A" + byte + "A")[:size] if size > 1 else byte, 14
-    else:
-        for byte in "x/: -":
-            yield (byte + "1" * 20)[:size], 14
-        yield "1" * (size - 1) + "\xb2", 14
-    if values:
-        for value in values:
-            yield value, 0
-        yield "0" * size if kind == "N" and "0" not in values else "9" * size, 18
-        if kind == "C":
-            yield values[0].lower() if values[0].lower() not in values else "X" * size, 18
-            yield "\x00" * size, 18
-        yield values[0] + "1", 15
+            yield ("A" + byte + "A")[: row.size] if row.size > 1 else byte, 14
         return
-    filling = "A" if kind == "C" else "1"
-    if row.fill == "fixed":
-        yield ones(size) if kind == "N" else filling * size, 0
-        yield filling * (size - 1), 15
-    yield filling * (size + 1), 15
-    if holds == "telephone":
-        yield "11111111", 0
-        yield "111111111", 0
-        yield "1111111", 15
-        yield "011111111", 0
-        return
-    if holds == "cpfOrCnpj":
-        for count in (11, 14):
-            yield ones(count), 0
-        for count in (1, 10, 12, 13):
-            yield "1" * count, 15
-        return
-    if row.fill == "variable":
-        yield filling, 0
-        yield filling * size, 0
-    if holds in ("amount", "months"):
+    for byte in "x/: -":
+        yield (byte + "1" * 20)[: row.size], 14
+    yield "1" * (row.size - 1) + "\xb2", 14
+
+
+def listed_taken(row):
+    size, values = row.size, row.values
+    for value in values:
+        yield value, 0
+    yield "0" * size if row.format == "N" and "0" not in values else "9" * size, 18
+    if row.format == "C":
+        yield values[0].lower() if values[0].lower() not in values else "X" * size, 18
+        yield "\x00" * size, 18
+    yield values[0] + "1", 15
+
+
+def held_taken(row):
+    """What hangs on what the field holds, where any byte of its format may stand."""
+    size = row.size
+    if row.holds in ("amount", "months"):
         yield "9" * size, 0
         yield "0", 16
         yield "0" + "1" * (size - 1), 16
         yield "0" * (size + 1), 15
         yield "-1", 14
         yield "1,00", 14
-    elif holds == "ddd":
+    elif row.holds == "ddd":
         yield "01", 16
         yield "00", 16
         yield "10", 0
-    elif kind == "N":
+    elif row.format == "N":
         yield "0" * size, 0
     else:
         yield "\x00\xff\x7f "[:size] + "A" * max(0, size - 4), 0
+
+
+def sized_taken(row):
+    size, filling = row.size, "A" if row.format == "C" else "1"
+    if row.fill == "fixed":
+        yield ones(size) if row.format == "N" else filling * size, 0
+        yield filling * (size - 1), 15
+    yield filling * (size + 1), 15
+    if row.holds == "telephone":
+        yield "11111111", 0
+        yield "111111111", 0
+        yield "1111111", 15
+        yield "011111111", 0
+    elif row.holds == "cpfOrCnpj":
+        for count in (11, 14):
+            yield ones(count), 0
+        for count in (1, 10, 12, 13):
+            yield "1" * count, 15
+    else:
+        if row.fill == "variable":
+            yield filling, 0
+            yield filling * size, 0
+        yield from held_taken(row)
+
+
+def taken(row):
+    """Contents that a row takes, and contents that it refuses, each with the number."""
+    yield "", 13 if row.need == "obligatory" else 0
+    if row.format == "D":
+        yield from dates_taken()
+        return
+    yield from bytes_taken(row)
+    yield from listed_taken(row) if row.values else sized_taken(row)
 
 
 def field_rules():

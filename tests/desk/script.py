@@ -39,13 +39,13 @@ class Folder:
     def at(self, name):
         return os.path.join(self.path, name)
 
-    def start(self):
-        paths = self.at("kit") + os.pathsep + os.environ["PATH"]
+    def start(self, *words):
+        known = {**os.environ, "PATH": self.at("kit") + os.pathsep + os.environ["PATH"]}
         pipe = subprocess.PIPE
-        return subprocess.Popen([self.at("desk")], stdin=subprocess.DEVNULL, stdout=pipe, stderr=pipe, env={**os.environ, "PATH": paths})
+        return subprocess.Popen([self.at("desk"), *words], stdin=subprocess.DEVNULL, stdout=pipe, stderr=pipe, env=known)
 
-    def run(self):
-        desk = self.start()
+    def run(self, *words):
+        desk = self.start(*words)
         out, err = desk.communicate(timeout=LATE)
         return out, desk.returncode, err
 
@@ -71,6 +71,15 @@ def told_at_once(desk):
     folder.age()
     third = folder.run()
     yield "a newer source is built", third[:2] == (b"0 6 0 6\n", 0) and b"building" in third[2], third
+    shutil.rmtree(folder.path)
+
+
+def refused_at_once(desk):
+    """What cannot be answered is said before anything is built."""
+    folder = Folder(desk, "echo 0 6 0 6")
+    for words in ([folder.path], [folder.at("none")], [folder.at("program")] * 2):
+        done = folder.run(*words)
+        yield f"nothing is built for {words}", done[:2] == (b"", 2) and done[2] != b"" and b"building" not in done[2], done
     shutil.rmtree(folder.path)
 
 
@@ -116,5 +125,6 @@ def programs(desk):
 def cases(desk):
     """Name, whether it is as expected, and what was found."""
     yield from told_at_once(desk)
+    yield from refused_at_once(desk)
     yield from not_built(desk)
     yield from programs(desk)
