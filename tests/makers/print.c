@@ -1,4 +1,5 @@
 /* print keys COUNT: the CPF and the CNPJ of so many serial numbers, a line each.
+   print declarants: DECPF without and with an SCP, then DECPJ.
    print files COUNT: files that are meant to be right, each after a line with its bytes: so many of tests/cross, whole and cut and closed,
    and those that the bench measures. */
 #include <stdio.h>
@@ -21,6 +22,15 @@ static void print_keys(unsigned long count)
         make_cpf(i * step % 1000000000, cpf);
         make_cnpj(i * step % 1000000000000, cnpj);
         printf("%s %s\n", cpf, cnpj);
+    }
+}
+
+static void print_declarants(void)
+{
+    char line[100];
+    for (int i = 0; i < 4; i++) {
+        make_declarant(i / 2, i % 2, line);
+        fputs(line, stdout);
     }
 }
 
@@ -59,11 +69,13 @@ static void print_files(unsigned long count)
 
 int main(int argc, char **argv)
 {
-    if (argc < 3)
-        return 2;
-    if (strcmp(argv[1], "keys") == 0)
-        print_keys(strtoul(argv[2], NULL, 10));
+    unsigned long count = argc > 2 ? strtoul(argv[2], NULL, 10) : 0;
+    const char *what = argc > 1 ? argv[1] : "";
+    if (strcmp(what, "keys") == 0)
+        print_keys(count);
+    else if (strcmp(what, "declarants") == 0)
+        print_declarants();
     else
-        print_files(strtoul(argv[2], NULL, 10));
+        print_files(count);
     return 0;
 }
