@@ -1,4 +1,4 @@
-/* answers LINES short|long accepted|refused
+/* answers LINES short|long|scp accepted|refused
    Prints the file's bytes and fails where a checker's answer is not the one expected, or the two differ, or the floor missed a line end. */
 #include <inttypes.h>
 #include <stdio.h>
@@ -37,7 +37,7 @@ static void show(const char *who, answer a)
 int main(int argc, char **argv)
 {
     if (argc < 4) {
-        fprintf(stderr, "answers LINES short|long accepted|refused\n");
+        fprintf(stderr, "answers LINES short|long|scp accepted|refused\n");
         return 2;
     }
     input in = input_make(argv[1], argv[2], argv[3]);

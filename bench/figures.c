@@ -5,7 +5,7 @@
 #include <stdlib.h>
 #include <string.h>
 
-const char *const input_names[INPUTS] = {"short accepted", "short refused", "long accepted", "long refused"};
+const char *const input_names[INPUTS] = {"short accepted", "short refused", "long accepted", "long refused", "scp accepted", "scp refused"};
 const char *const which_names[WHICHES] = {"nothing", "floor", "plain", "archive"};
 const unsigned size_lines[SIZES] = {600, 6000, 60000};
 static const char *const measure_names[MEASURES] = {"instructions", "nanoseconds", "stack", "bytes"};
@@ -71,6 +71,12 @@ double ratio(const figures *f, int input, enum size size, enum which other)
 double growth(const figures *f, int input, enum which which)
 {
     return per_line(f, input, SIZE_60000, which) / per_line(f, input, SIZE_6000, which);
+}
+
+double seconds_ratio(const figures *f, int input, enum size size)
+{
+    const uint64_t *run = f->value[NANOSECONDS][input][size];
+    return (double)run[ARCHIVE] / (double)run[PLAIN];
 }
 
 uint64_t peak_stack(const figures *f, enum which which)

@@ -8,8 +8,8 @@
 enum measure { INSTRUCTIONS, NANOSECONDS, STACK, BYTES, MEASURES };
 enum which { NOTHING, FLOOR, PLAIN, ARCHIVE, WHICHES };
 enum size { SIZE_600, SIZE_6000, SIZE_60000, SIZES };
-/* short accepted, short refused, long accepted, long refused */
-enum { INPUTS = 4 };
+/* short, long and scp, each accepted and refused */
+enum { INPUTS = 6 };
 
 typedef struct { uint64_t value[MEASURES][INPUTS][SIZES][WHICHES]; } figures;
 
@@ -17,7 +17,7 @@ extern const char *const input_names[INPUTS];
 extern const char *const which_names[WHICHES];
 extern const unsigned size_lines[SIZES];
 
-/* Reads lines of six words: measure, short or long, accepted or refused, lines, which, value. 0 where one is wrong or missing. */
+/* Reads lines of six words: measure, shape, accepted or refused, lines, which, value. 0 where one is wrong or missing. */
 int figures_read(figures *f, FILE *from);
 
 /* Instructions of one call: a run with it less a run without it. */
@@ -29,6 +29,9 @@ double ratio(const figures *f, int input, enum size size, enum which other);
 
 /* Instructions per line at 60,000 lines over those at 6,000. */
 double growth(const figures *f, int input, enum which which);
+
+/* The archive's seconds over the plain checker's. */
+double seconds_ratio(const figures *f, int input, enum size size);
 
 /* The most that any input took, less what an empty call takes. */
 uint64_t peak_stack(const figures *f, enum which which);

@@ -5,16 +5,15 @@
 #include <stdlib.h>
 #include <string.h>
 
+#include "../tests/makers/people.h"
+
 enum { HEAD_LINES = 4, LEAST_LINES = 5, MOST_LINES = 65536 };
 /* no line made here is longer */
 enum { LONGEST = 256 };
-enum { MONTHS = 13, CPF_DIGITS = 11, AMOUNT_DIGITS = 13 };
+enum { MONTHS = 13, AMOUNT_DIGITS = 13 };
 
-static const char head[] =
-    "Dirf|2025|2024|N||R6GP3ZA|\r\n"
-    "RESPO|11144477735|ANA LIMA|11|33334444||||\r\n"
-    "DECPJ|11222333000181|SERRA LTDA|0|11144477735|N|N|N|N|N|N|N|N||\r\n"
-    "IDREC|0561|\r\n";
+/* lines 1 and 2; the declarant and the first block follow */
+static const char opening[] = "Dirf|2025|2024|N||R6GP3ZA|\r\nRESPO|11144477735|ANA LIMA|11|33334444||||\r\n";
 
 /* 60 bytes, the most that a name may have */
 static const char long_name[] = "MARIA APARECIDA DOS SANTOS ALBUQUERQUE DE OLIVEIRA E BARROSO";
@@ -56,10 +55,16 @@ static void put_amount(input *in)
 }
 
 /* Ever greater CPFs. */
+static void put_cpf(input *in, unsigned number)
+{
+    make_cpf(number + 1, (char *)in->bytes + in->len);
+    in->len += CPF_SIZE;
+}
+
 static void put_beneficiary(input *in, unsigned number, const char *name, const char *birth)
 {
     put(in, "BPFDEC|");
-    put_digits(in, number + 1, CPF_DIGITS);
+    put_cpf(in, number);
     put(in, "|");
     put(in, name);
     put(in, "|");
@@ -107,30 +112,58 @@ static void put_long(input *in, unsigned i)
         put_long_values(in, long_values[at - 1]);
 }
 
-/* 1 for the second word, 0 for the first. */
-static int second(const char *word, const char *a, const char *b)
+/* A record late in the list of kinds, with little else to look at: of one kind alone it is the dearest that was tried. */
+static void put_scp(input *in, unsigned i)
 {
-    if (strcmp(word, a) != 0 && strcmp(word, b) != 0)
-        stop("a word that is not known");
-    return strcmp(word, b) == 0;
+    put(in, "BPFSCP|");
+    put_cpf(in, i);
+    put(in, "|ANA||\r\n");
 }
 
-input input_make(const char *lines, const char *shape, const char *end)
+/* The line that opens each shape's block, and its line number i after that. */
+typedef struct {
+    const char *name, *block;
+    int has_scp;
+    void (*put_line)(input *in, unsigned i);
+} shape;
+
+static const shape shapes[] = {
+    {"short", "IDREC|0561|\r\n", 0, put_short},
+    {"long", "IDREC|0561|\r\n", 0, put_long},
+    {"scp", "SCP|11222333000181|SCP SERRA|\r\n", 1, put_scp},
+};
+
+static const shape *shape_named(const char *name)
 {
-    int is_long = second(shape, "short", "long"), refused = second(end, "accepted", "refused");
+    for (size_t i = 0; i < sizeof shapes / sizeof *shapes; i++)
+        if (strcmp(shapes[i].name, name) == 0)
+            return &shapes[i];
+    stop("no such shape");
+    return NULL;
+}
+
+static int is_refused(const char *end)
+{
+    if (strcmp(end, "accepted") != 0 && strcmp(end, "refused") != 0)
+        stop("no such end");
+    return strcmp(end, "refused") == 0;
+}
+
+input input_make(const char *lines, const char *shape_name, const char *end)
+{
+    const shape *made = shape_named(shape_name);
+    int refused = is_refused(end);
     unsigned long count = strtoul(lines, NULL, 10);
     if (count < LEAST_LINES || count > MOST_LINES)
         stop("no such count of lines");
     input in = {malloc(count * LONGEST), 0};
     if (in.bytes == NULL)
         stop("no memory");
-    put(&in, head);
-    for (unsigned i = 0; i < count - HEAD_LINES - 1; i++) {
-        if (is_long)
-            put_long(&in, i);
-        else
-            put_short(&in, i);
-    }
+    put(&in, opening);
+    in.len += make_declarant(1, made->has_scp, (char *)in.bytes + in.len);
+    put(&in, made->block);
+    for (unsigned i = 0; i < count - HEAD_LINES - 1; i++)
+        made->put_line(&in, i);
     /* without its bar the last line is refused with 8 */
     put(&in, refused ? "FIMDirf\r\n" : "FIMDirf|\r\n");
     return in;

@@ -1,4 +1,5 @@
-/* The files that are measured: a company's pay records, in short or long lines, accepted or refused at the last line. */
+/* The files that are measured: a company's pay records in short or long lines, or the partners of one SCP; accepted or refused at the
+   last line. */
 #ifndef INPUT_H
 #define INPUT_H
 
@@ -7,7 +8,7 @@
 
 typedef struct { uint8_t *bytes; size_t len; } input;
 
-/* A file of so many lines, at least 5, as its words say: "short" or "long", "accepted" or "refused".
+/* A file of so many lines, at least 5, as its words say: "short", "long" or "scp", "accepted" or "refused".
    Exits where a word or the count is none of these. */
 input input_make(const char *lines, const char *shape, const char *end);
 

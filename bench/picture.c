@@ -3,7 +3,9 @@
 
 #include <math.h>
 
-enum { WIDTH = 860, HEIGHT = 700, LEFT = 80, RIGHT = 840, PLOT = 190, BARS = 3, STEPS = 4 };
+#include "targets.h"
+
+enum { WIDTH = 1240, HEIGHT = 700, LEFT = 80, RIGHT = 1220, PLOT = 190, BARS = 3, STEPS = 4 };
 enum { BAR_WIDTH = 46, BAR_STEP = 52 };
 
 /* One chart: three bars for each input, with what to call them. */
@@ -94,7 +96,7 @@ static void draw_calls(const figures *f, FILE *to)
 {
     static const enum which order[BARS] = {ARCHIVE, PLAIN, FLOOR};
     chart c = {
-        .title = "One check of 60,000 lines (target: archive / plain at most 1.50)",
+        .title = "One check of 60,000 lines (target: archive / plain at most what stands in brackets)",
         .legend = {"archive", "plain checker", "floor (line ends)"},
         .colour = {"#1f5fa8", "#e08a1e", "#8a8a8a"},
         .top = 110,
@@ -102,7 +104,7 @@ static void draw_calls(const figures *f, FILE *to)
     for (int i = 0; i < INPUTS; i++) {
         for (int b = 0; b < BARS; b++)
             c.value[i][b] = per_line(f, i, SIZE_60000, order[b]);
-        snprintf(c.under[i], sizeof c.under[i], "archive / plain: %.3f", ratio(f, i, SIZE_60000, PLAIN));
+        snprintf(c.under[i], sizeof c.under[i], "archive / plain: %.3f (%.2f)", ratio(f, i, SIZE_60000, PLAIN), most_ratio[i]);
     }
     draw_chart(to, &c);
 }

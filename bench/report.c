@@ -6,6 +6,7 @@
 #include "figures.h"
 #include "picture.h"
 #include "table.h"
+#include "targets.h"
 
 static int write_picture(const figures *f, const char *path)
 {
@@ -28,7 +29,7 @@ int main(int argc, char **argv)
         return 2;
     }
     table_print(&f, argv[2]);
-    int met = targets_print(&f);
+    int met = targets_print(&f, argv[2]);
     if (!write_picture(&f, argv[1])) {
         fprintf(stderr, "report: cannot write %s\n", argv[1]);
         return 2;

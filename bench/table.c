@@ -1,10 +1,7 @@
-/* Prints the measured figures as text, and the targets. */
+/* Prints the measured figures as text. */
 #include "table.h"
 
 #include <inttypes.h>
-
-static const double most_ratio = 1.5, most_growth = 1.05;
-static const uint64_t most_stack = 32 * 1024;
 
 static void print_row_name(int input, int size)
 {
@@ -60,7 +57,7 @@ static void print_seconds(const figures *f, const char *seconds)
             print_row_name(i, s);
             for (int w = ARCHIVE; w >= FLOOR; w--)
                 printf(" %10.6f", (double)run[w] / 1e9);
-            printf(" %14.2f\n", (double)run[ARCHIVE] / (double)run[PLAIN]);
+            printf(" %14.2f\n", seconds_ratio(f, i, (enum size)s));
         }
 }
 
@@ -78,25 +75,4 @@ void table_print(const figures *f, const char *seconds)
     print_growth(f);
     print_seconds(f, seconds);
     print_stack(f);
-}
-
-static const char *verdict(int met)
-{
-    return met ? "met" : "MISSED";
-}
-
-int targets_print(const figures *f)
-{
-    uint64_t stack = peak_stack(f, ARCHIVE);
-    int all = stack < most_stack;
-    printf("\nTargets\n\n");
-    for (int i = 0; i < INPUTS; i++) {
-        double r = ratio(f, i, SIZE_60000, PLAIN), g = growth(f, i, ARCHIVE);
-        printf("%-15s archive/plain at 60,000 lines %.3f, at most %.2f: %s\n", input_names[i], r, most_ratio, verdict(r <= most_ratio));
-        printf("%-15s growth of the archive %.4f, at most %.2f: %s\n", input_names[i], g, most_growth, verdict(g <= most_growth));
-        all = all && r <= most_ratio && g <= most_growth;
-    }
-    printf("%-15s stack of the archive %" PRIu64 " bytes, under %" PRIu64 ": %s\n", "all inputs", stack, most_stack,
-           verdict(stack < most_stack));
-    return all;
 }

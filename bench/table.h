@@ -7,7 +7,4 @@
 /* What the seconds are: "emulated seconds" or "seconds". */
 void table_print(const figures *f, const char *seconds);
 
-/* Prints the targets; 1 where all are met. */
-int targets_print(const figures *f);
-
 #endif

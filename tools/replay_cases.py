@@ -2,8 +2,9 @@
 """Writes stdin, a run of cases, and stdout, what document 01 demands for each, to crates/replay or to the folder that is named.
 
 Nothing here asks the program. Of a file the number, the line and the field are written beside it, and the indents of its lines say which
-line is the parent of which; of docs/TOUR.md's file the page says it. Of a record's fields ROWS has what the sources print, and each case
-says what it breaks. The layout of a case is in docs/REPLAY.md. Run it from anywhere; it writes the same bytes every time.
+line is the parent of which; of docs/TOUR.md's file the page says it. Records, rows and lists are those of layout.txt, and each case says
+what it breaks; all else in it is right, check digits and flags too, since makers.py makes them. The layout of a case is in docs/REPLAY.md.
+Run it from anywhere; it writes the same bytes every time.
 """
 import os
 import struct
@@ -11,64 +12,46 @@ import sys
 
 # no folder of compiled modules is left in the repository
 sys.dont_write_bytecode = True
+import layout
+import makers
 import tour as tour_page
 
 ROOT = os.path.dirname(os.path.dirname(os.path.abspath(__file__)))
 END = "\r\n"
-CPF, CNPJ = "11144477735", "11222333000181"
+CPF, CNPJ, OTHER_CNPJ = makers.PERSON, makers.COMPANY, makers.cnpj(222223330001)
 
-# list 2.2 of document 004, DECPF before DECPJ
-NAMES = """
-Dirf RESPO DECPF DECPJ IDREC BPFDEC RTRT RTPO RTDP RTDS RTIRF CJAC CJAA ESRT ESPO ESDP ESDS ESIR ESDJ INFPC RTPP RTFA RTSP RTEP
-ESPP ESFA ESSP ESEP INFPA RTPA ESPA RIDAC RIIRP RIAP RIMOG RIP65 RIBMR RICAP RIRPC RIL96 RIPTS RIJMRE RIO BPJDEC VPEIM RIMUN RISEN
-FCI BPFFCI BPJFCI PROC BPFPROC RIRSR BPJPROC RRA BPFRRA DAJUD QTMESES SCP BPFSCP RISCP BPJSCP PSE OPSE TPSE RTPSE DTPSE RDTPSE
-RPDE BRPDE VRPDE INF FIMDirf
-""".split()
-KIND = {name: i + 1 for i, name in enumerate(NAMES)}
-LATER = "INFPC RTEP ESEP INFPA VPEIM RIMUN RISEN PSE OPSE TPSE RTPSE DTPSE RDTPSE RPDE BRPDE VRPDE INF".split()
-ANNUAL = "RIL96 RIPTS RIJMRE RIRSR".split()
-MONTHLY = """
-RTRT RTPO RTPP RTFA RTSP RTDP RTDS RTPA RTIRF CJAA CJAC ESRT ESPO ESPP ESFA ESSP ESDP ESDS ESPA ESIR ESDJ RIP65 RIDAC RIIRP RIAP
-RIMOG RIRPC RIBMR RICAP RISCP DAJUD
-""".split()
-VALUES = MONTHLY + ANNUAL + ["RIO", "QTMESES"]
+# names, rows and lists are not typed again: tools/layout.txt has them
+LAYOUT = layout.read()
+KIND, LATER, ROWS = LAYOUT.kinds, LAYOUT.later, LAYOUT.rows
 
-# the value records of each beneficiary, as document 004's lists 2.1 and 2.2 have them
-BPFDEC = "RTRT RTPO RTDP RTDS RTIRF CJAC CJAA ESRT ESPO ESDP ESDS ESIR ESDJ RIDAC RIIRP RIAP RIP65 RIJMRE RIO".split()
-BPFPROC = """
-RTRT RTPO RTDP RTDS RTIRF CJAC CJAA ESRT ESPO ESDP ESDS ESIR ESDJ RTPP RTFA RTSP ESPP ESFA ESSP RTPA ESPA RIMOG RIJMRE RIRSR
-""".split()
-BELOW = {
-    "DECPF": {
-        "BPFDEC": BPFDEC,
-        "BPJDEC": ["RTRT", "RTIRF"],
-        "BPFRRA": "RTRT RTPO RTIRF DAJUD QTMESES RIJMRE".split(),
-        "BPFSCP": ["RISCP"],
-        "BPJSCP": ["RISCP"],
-    },
-    "DECPJ": {
-        "BPFDEC": BPFDEC + "RIMOG RIBMR RICAP RIRPC RIL96 RIPTS".split(),
-        "BPJDEC": ["RTRT", "RTIRF"],
-        "BPFFCI": "RTRT RTIRF CJAC CJAA ESRT ESIR ESDJ RIP65 RIMOG RICAP RIO".split(),
-        "BPJFCI": ["RTRT", "RTIRF"],
-        "BPFPROC": BPFPROC,
-        "BPJPROC": "RTRT RTIRF RIRSR".split(),
-        "BPFRRA": "RTRT RTPO RTIRF RIMOG RIP65 RIJMRE DAJUD QTMESES".split(),
-        "BPFSCP": ["RISCP"],
-        "BPJSCP": ["RISCP"],
-    },
-}
 
-# the beneficiaries of each block, the declarant's own under ""
-BLOCKS = {"": "BPFDEC BPJDEC", "FCI": "BPFFCI BPJFCI", "PROC": "BPFPROC BPJPROC", "RRA": "BPFRRA", "SCP": "BPFSCP BPJSCP"}
-ORDER = "IDREC FCI PROC RRA SCP".split()
+def alike(name):
+    """The records that have the rows of this one, the identifier aside."""
+    return [other for other, rows in ROWS.items() if rows[1:] == ROWS[name][1:]]
 
-# a line of each record that keeps every rule; value records besides, below
+
+MONTHLY, ANNUAL = alike("RTRT"), alike("RIL96")
+# one of each group of records that have their rows together
+SAMPLES = [name for name in ROWS if name not in MONTHLY[1:] + ANNUAL[1:]]
+
+# DECPJ's list, which has every record that DECPF's has; below an IDREC it hangs on what that belongs to
+HELD = LAYOUT.below["DECPJ"]
+ORDER, PEOPLE = HELD["DECPJ"], HELD["IDREC"] + HELD["SCP"]
+# the beneficiaries of each block, whose names end as its own does, the declarant's own under ""
+BLOCKS = {block: [who for who in PEOPLE if who.endswith(block or "DEC")] for block in ["", *ORDER[1:]]}
+
+# the value records of each beneficiary
+BELOW = {declarant: {who: names for who, names in held.items() if who in PEOPLE} for declarant, held in LAYOUT.below.items()}
+# what a person may declare of a BPFDEC comes first in a company's file too
+BELOW["DECPJ"]["BPFDEC"] = sorted(BELOW["DECPJ"]["BPFDEC"], key=lambda name: name not in BELOW["DECPF"]["BPFDEC"])
+VALUES = MONTHLY + ANNUAL + [name for name in ROWS if name not in MONTHLY + ANNUAL and any(name in HELD[who] for who in PEOPLE)]
+
+# a line of each record that keeps every rule; value records besides, below. The declarants' are those of a file without blocks
 LINE = {
     "Dirf": "Dirf|2025|2024|N||R6GP3ZA|",
     "RESPO": f"RESPO|{CPF}|ANA LIMA|11|33334444||||",
-    "DECPF": f"DECPF|{CPF}|ANA LIMA|N|N|N|S|N|||N|||||",
-    "DECPJ": f"DECPJ|{CNPJ}|SERRA LTDA|0|{CPF}|N|N|N|N|N|N|N|N||",
+    "DECPF": makers.declarant("DECPF"),
+    "DECPJ": makers.declarant("DECPJ"),
     "IDREC": "IDREC|0561|",
     "BPFDEC": f"BPFDEC|{CPF}|ANA LIMA||N|N|",
     "BPJDEC": f"BPJDEC|{CNPJ}|SERRA LTDA|",
@@ -115,15 +98,22 @@ def words(*items):
     return " ".join(str(item) for item in items if item != "")
 
 
+def line_of(name, records):
+    """The line of a record, in a file that has these records: a declarant's flags follow from them."""
+    return makers.declarant(name, records) if name in makers.FLAGS else LINE.get(name, name)
+
+
 def lines_of(tree):
     """The lines of a tree, and of each the number of the line above it that is indented less, 0 where none is."""
     lines, open_lines = [], []
-    for row in tree.strip("\n").split("\n"):
+    rows = tree.strip("\n").split("\n")
+    records = {row.lstrip(" ").split("|")[0] for row in rows}
+    for row in rows:
         text = row.lstrip(" ")
         depth = len(row) - len(text)
         open_lines = [(d, n) for d, n in open_lines if d < depth]
         # a name stands for its line above; = means the text as it is
-        text = text[1:] if text.startswith("=") else LINE.get(text, text)
+        text = text[1:] if text.startswith("=") else line_of(text, records)
         lines.append((text, open_lines[-1][1] if open_lines else 0))
         open_lines.append((depth, len(lines)))
     return lines
@@ -162,17 +152,17 @@ def write(kind, cells, breach, field=0, room=300, contents=None, lengths=None):
     case("W", given, words(breach, field, len(text), 1, text.encode("latin-1").hex()))
 
 
-def cells_of(name):
-    return LINE[name].split("|")[:-1]
+def cells_of(name, records=()):
+    return line_of(name, records).split("|")[:-1]
 
 
-def with_cell(name, field, cell):
-    cells = cells_of(name)
+def with_cell(name, field, cell, records=()):
+    cells = cells_of(name, records)
     return cells[: field - 1] + [cell] + cells[field:]
 
 
-def with_field(name, field, cell):
-    return "|".join(with_cell(name, field, cell)) + "|"
+def with_field(name, field, cell, records=()):
+    return "|".join(with_cell(name, field, cell, records)) + "|"
 
 
 # ---- files
@@ -195,7 +185,7 @@ def marked():
     check(SIX, 2, 7, after="\n")
     check(SIX.replace("Dirf\nRESPO", "=DIRF|2025|2024|N||R6GP3ZA|\nRESPO"), 9, 1, 1)
     check(SIX.replace("\nFIMDirf", "\n=FIMDirf"), 8, 6)
-    check(SIX.replace("DECPF", with_field("DECPF", 8, "S")), 19, 3, 9)
+    check(SIX.replace("DECPF", with_field("DECPF", 8, "S", ["SCP"])), 19, 3, 9)
     check(SIX.replace("FIMDirf", "    BPFSCP\nFIMDirf"), 20, 6, 2)
 
 
@@ -336,7 +326,7 @@ def places():
     # the beneficiaries of one block, below an IDREC of another
     for tree, block in ((pj, ""), (pj, "FCI"), (pj, "PROC"), (pj, "RRA"), (pf, ""), (pf, "RRA")):
         for other in BLOCKS:
-            for name in BLOCKS[other].split():
+            for name in BLOCKS[other]:
                 lead = "  IDREC\n    " if block == "" else "  " + block + "\n    IDREC\n      "
                 line = 5 if block == "" else 6
                 if other == block:
@@ -396,17 +386,19 @@ def orders():
            ("BPFRRA", "  RRA\n    IDREC\n      ")]
     for name, lead in two:
         size = len(cells_of(name)[1])
-        same = with_field(name, 2, "5" * size)
+        fives = int("5" * (size - makers.CHECK_SIZE))
+        same, more, less = [with_field(name, 2, makers.key(size, serial)) for serial in (fives, fives + 1, fives - 1)]
         indent = " " * (len(lead) - lead.rfind("\n") - 1)
         line = 5 + lead.count("\n")
-        check(pj(lead + same + "\n" + indent + with_field(name, 2, "5" * (size - 1) + "6") + "\nFIMDirf"), 0, line + 1)
+        check(pj(lead + same + "\n" + indent + more + "\nFIMDirf"), 0, line + 1)
         check(pj(lead + same + "\n" + indent + same), 20, line, 2)
-        check(pj(lead + same + "\n" + indent + with_field(name, 2, "5" * (size - 1) + "4")), 20, line, 2)
+        check(pj(lead + same + "\n" + indent + less), 20, line, 2)
         # compared as bytes with their zeros, from the first byte on
-        check(pj(lead + same + "\n" + indent + with_field(name, 2, "4" + "9" * (size - 1))), 20, line, 2)
+        nines = int("4" + "9" * (size - makers.CHECK_SIZE - 1))
+        check(pj(lead + same + "\n" + indent + with_field(name, 2, makers.key(size, nines))), 20, line, 2)
     for name in ("IDREC", "FCI", "SCP"):
         size = len(cells_of(name)[1])
-        one, other = with_field(name, 2, "0" * (size - 1) + "1"), with_field(name, 2, "0" * (size - 1) + "2")
+        one, other = with_field(name, 2, makers.key(size, 1)), with_field(name, 2, makers.key(size, 2))
         check(pj("  " + one + "\n  " + other + "\nFIMDirf"), 0, 6)
         check(pj("  " + one + "\n  " + one), 20, 5, 2)
         check(pj("  " + other + "\n  " + one), 20, 5, 2)
@@ -425,7 +417,7 @@ def orders():
     check(pj("  RRA|1|1|||||\n  RRA|1||||||"), 20, 5, 2)
     check(pj("  RRA|1||||||\n  RRA|1||||||"), 20, 5, 2)
     # the one before need not be the line before
-    low, high = with_field("BPFDEC", 2, "00000000001"), with_field("BPFDEC", 2, "00000000002")
+    low, high = with_field("BPFDEC", 2, makers.cpf(1)), with_field("BPFDEC", 2, makers.cpf(2))
     check(pj(f"  IDREC\n    {high}\n      RTRT\n      RIO\n    {low}"), 20, 8, 2)
     check(pj(f"  IDREC\n    {low}\n      RTRT\n    {high}\n      RTRT\nFIMDirf"), 0, 9)
     check(pj(f"  IDREC\n    {low}\n  IDREC"), 20, 6, 2)
@@ -433,17 +425,17 @@ def orders():
     check(pj("  PROC\n    IDREC\n      BPFPROC\n        RTRT\n  PROC"), 20, 8, 2)
     # the order starts afresh under a new parent
     check(pj(f"  IDREC\n    {high}\n  IDREC|0588|\n    {low}\n  IDREC|1708|\n    {low}\nFIMDirf"), 0, 10)
-    funds = "  IDREC|9999|\n  FCI\n    IDREC\n  FCI|22222333000181|B|\n    IDREC\n"
+    funds = f"  IDREC|9999|\n  FCI\n    IDREC\n  FCI|{OTHER_CNPJ}|B|\n    IDREC\n"
     others = "  PROC\n    IDREC\n      BPFPROC\n  RRA\n    IDREC\n      BPFRRA\n"
     check(pj(funds + others + "FIMDirf"), 0, 15)
-    check(pj("  SCP\n    BPFSCP\n  SCP|22222333000181|B|\n    BPFSCP\nFIMDirf"), 0, 8)
+    check(pj(f"  SCP\n    BPFSCP\n  SCP|{OTHER_CNPJ}|B|\n    BPFSCP\nFIMDirf"), 0, 8)
     check(pj("  IDREC|0588|\n  FCI\n    IDREC|0561|\n    IDREC|0561|"), 20, 7, 2)
     # 21: once under one beneficiary, and again under the next
     for who, lead, depth in (("BPFDEC", "  IDREC\n    ", 4), ("BPFSCP", "  SCP\n    ", 4), ("BPFRRA", "  RRA\n    IDREC\n      ", 6),
     ("BPFPROC", "  PROC\n    IDREC\n      ", 6)):
         value = BELOW["DECPJ"][who][0]
         line = 6 + lead.count("\n")
-        next_one = with_field(who, 2, "99999999999")
+        next_one = with_field(who, 2, makers.cpf(999999999))
         deep = " " * (depth + 2)
         check(pj(f"{lead}{who}\n{deep}{value}\n{deep}{value}"), 21, line, 1)
         check(pj(f"{lead}{who}\n{deep}{value}\n{' ' * depth}{next_one}\n{deep}{value}\nFIMDirf"), 0, line + 2)
@@ -556,117 +548,113 @@ def pairs():
     check(pj("  IDREC\n    BPFDEC\n      RTRT\n    " + with_field("BPFDEC", 2, "1114447773") + "\n      RTRT"), 15, 7, 2)
 
 
-# ---- the fields of each record: C, N or D; F(ixed) or V(ariable) and the size; ! obligatory; and what it holds: a(mount), m(onth
-# count), d(dd), t(elephone), e(leven or fourteen digits), or = and the valid values. DECPF field 8 as S is the conditions' matter.
-ROWS = {
-    "Dirf": "CF4! NF4!=2025 NF4!=2024 CF1!=N,S NF12 CF7!=R6GP3ZA",
-    "RESPO": "CF5! NF11! CV60! NF2!d NV9!t NV6 NV9t CV50",
-    "DECPF": "CF5! NF11! CV60! CF1!=N,S CF1!=N,S CF1!=N,S CF1!=N,S CF1!=N DF8 NF1=1,2 CF1!=N,S DF8 NF1=0,1 NF11 CV60",
-    "DECPJ": "CF5! NF14! CV150! NF1!=0,1,2,3,4,8 NF11! CF1!=N,S CF1!=N,S CF1!=N,S CF1!=N,S CF1!=N,S CF1!=N,S CF1!=N,S CF1!=N,S DF8",
-    "IDREC": "CF5! NF4!",
-    "BPFDEC": "CF6! NF11! CV60! DF8 CF1!=N,S CF1!=N,S",
-    "BPJDEC": "CF6! NF14! CV150!",
-    "FCI": "CF3! NF14! CV150!",
-    "BPFFCI": "CF6! NF11! CV60! DF8",
-    "BPJFCI": "CF6! NF14! CV150!",
-    "PROC": "CF4! NF1!=1,2,3 CV20! NF1=1,2 NV14e CV150 NV13a",
-    "BPFPROC": "CF7! NF11! CV60! DF8",
-    "BPJPROC": "CF7! NF14! CV150!",
-    "RRA": "CF3! NF1!=1,2 CV20 NF1=1,2 NV14e CV150 NV13a",
-    "BPFRRA": "CF6! NF11! CV60! CV50 DF8 CF1!=N,S",
-    "RTRT": "CV5!" + " NV13a" * 13,
-    "RIL96": "CV6! NV13!a",
-    "RIO": "CF3! NV13!a CV60!",
-    "QTMESES": "CF7!" + " NV4m" * 12,
-    "SCP": "CF3! NF14! CV150!",
-    "BPFSCP": "CF6! NF11! CV60! NV4",
-    "BPJSCP": "CF6! NF14! CV150! CV4",
-    "FIMDirf": "CF7!",
-}
+# ---- the fields of each record
+
+
+# of fields that are alike these are tried
 MONTHS = {"RTRT": (2, 8, 14), "QTMESES": (2, 13)}
 
 
-def taken(row):
-    """Contents that a row takes, and contents that it refuses, each with the number."""
-    head, _, listed = row.partition("=")
-    kind, fill, rest = head[0], head[1], head[2:]
-    size = int("".join(c for c in rest if c.isdigit()))
-    holds = rest[-1] if rest[-1] in "amdte" else ""
-    if "!" in rest:
-        yield "", 13
-    else:
-        yield "", 0
-    if kind == "D":
-        for day in "19000101 20991231 20240229 20000229 20240131 20240430 20241231".split():
-            yield day, 0
-        for day in "18991231 21000101 20230229 19000229 20240230 20240431 20240001 20241301 20240100 20240132 00000000 99999999".split():
-            yield day, 17
-        for bad in ("2024022A", "2024/2/9", "29-02-2024", "2024 229"):
-            yield bad, 14
-        for bad in ("2024022", "202402290", "240229"):
-            yield bad, 15
-        return
-    if kind == "C":
+def ones(size):
+    """So many digits, the check digits of a CPF or CNPJ right."""
+    return makers.key(size, makers.serial_of("1" * size))
+
+
+def dates_taken():
+    for day in "19000101 20991231 20240229 20000229 20240131 20240430 20241231".split():
+        yield day, 0
+    for day in "18991231 21000101 20230229 19000229 20240230 20240431 20240001 20241301 20240100 20240132 00000000 99999999".split():
+        yield day, 17
+    for bad in ("2024022A", "2024/2/9", "29-02-2024", "2024 229"):
+        yield bad, 14
+    for bad in ("2024022", "202402290", "240229"):
+        yield bad, 15
+
+
+def bytes_taken(row):
+    if row.format == "C":
         for byte in "|\r\n":
-            yield ("A" + byte + "A")[:size] if size > 1 else byte, 14
-    else:
-        for byte in "x/: -":
-            yield (byte + "1" * 20)[:size], 14
-        yield "1" * (size - 1) + "\xb2", 14
-    if listed:
-        values = listed.split(",")
-        for value in values:
-            yield value, 0
-        yield "0" * size if kind == "N" and "0" not in values else "9" * size, 18
-        if kind == "C":
-            yield values[0].lower() if values[0].lower() not in values else "X" * size, 18
-            yield "\x00" * size, 18
-        yield values[0] + "1", 15
+            yield ("A" + byte + "A")[: row.size] if row.size > 1 else byte, 14
         return
-    filling = "A" if kind == "C" else "1"
-    if fill == "F":
-        yield filling * size, 0
-        yield filling * (size - 1), 15
-    yield filling * (size + 1), 15
-    if holds == "t":
-        yield "11111111", 0
-        yield "111111111", 0
-        yield "1111111", 15
-        yield "011111111", 0
-        return
-    if holds == "e":
-        for count in (11, 14):
-            yield "1" * count, 0
-        for count in (1, 10, 12, 13):
-            yield "1" * count, 15
-        return
-    if fill == "V":
-        yield filling, 0
-        yield filling * size, 0
-    if holds in ("a", "m"):
+    for byte in "x/: -":
+        yield (byte + "1" * 20)[: row.size], 14
+    yield "1" * (row.size - 1) + "\xb2", 14
+
+
+def listed_taken(row):
+    size, values = row.size, row.values
+    for value in values:
+        yield value, 0
+    yield "0" * size if row.format == "N" and "0" not in values else "9" * size, 18
+    if row.format == "C":
+        yield values[0].lower() if values[0].lower() not in values else "X" * size, 18
+        yield "\x00" * size, 18
+    yield values[0] + "1", 15
+
+
+def held_taken(row):
+    """What hangs on what the field holds, where any byte of its format may stand."""
+    size = row.size
+    if row.holds in ("amount", "months"):
         yield "9" * size, 0
         yield "0", 16
         yield "0" + "1" * (size - 1), 16
         yield "0" * (size + 1), 15
         yield "-1", 14
         yield "1,00", 14
-    elif holds == "d":
+    elif row.holds == "ddd":
         yield "01", 16
         yield "00", 16
         yield "10", 0
-    elif kind == "N":
+    elif row.format == "N":
         yield "0" * size, 0
     else:
         yield "\x00\xff\x7f "[:size] + "A" * max(0, size - 4), 0
 
 
+def sized_taken(row):
+    size, filling = row.size, "A" if row.format == "C" else "1"
+    if row.fill == "fixed":
+        yield ones(size) if row.format == "N" else filling * size, 0
+        yield filling * (size - 1), 15
+    yield filling * (size + 1), 15
+    if row.holds == "telephone":
+        yield "11111111", 0
+        yield "111111111", 0
+        yield "1111111", 15
+        yield "011111111", 0
+    elif row.holds == "cpfOrCnpj":
+        for count in (11, 14):
+            yield ones(count), 0
+        for count in (1, 10, 12, 13):
+            yield "1" * count, 15
+    else:
+        if row.fill == "variable":
+            yield filling, 0
+            yield filling * size, 0
+        yield from held_taken(row)
+
+
+def taken(row):
+    """Contents that a row takes, and contents that it refuses, each with the number."""
+    yield "", 13 if row.need == "obligatory" else 0
+    if row.format == "D":
+        yield from dates_taken()
+        return
+    yield from bytes_taken(row)
+    yield from listed_taken(row) if row.values else sized_taken(row)
+
+
 def field_rules():
     """Every row, through the line writer: all of its contents where the row is new, else the first for each number."""
     known = set()
-    for name, rows in ROWS.items():
-        for field, row in enumerate(rows.split(), 1):
+    for name in SAMPLES:
+        for field, row in enumerate(ROWS[name], 1):
             if field == 1 or (name in MONTHS and field not in MONTHS[name]):
                 continue
+            # S in this one is the conditions' matter
+            if (name, field) == ("DECPF", 8):
+                row = row._replace(values=("N",))
             given = set()
             for cell, breach in taken(row):
                 if row in known and breach in given:
@@ -681,11 +669,10 @@ def identifier_rules():
     for name in LINE:
         write(KIND[name], cells_of(name), 0)
         write(KIND[name], with_cell(name, 1, "X" * len(name)), 18, 1)
-        size = 5 if name in MONTHLY else 6 if name in ANNUAL else len(name)
-        write(KIND[name], with_cell(name, 1, "X" * (size + 1)), 15, 1)
+        write(KIND[name], with_cell(name, 1, "X" * (ROWS[name][0].size + 1)), 15, 1)
     for name in ("Dirf", "RTRT", "RIJMRE", "RIO", "FIMDirf"):
         write(KIND[name], with_cell(name, 1, ""), 13, 1)
-        write(KIND[name], with_cell(name, 1, name[:-1]), 18 if name in MONTHLY + ANNUAL else 15, 1)
+        write(KIND[name], with_cell(name, 1, name[:-1]), 18 if ROWS[name][0].fill == "variable" else 15, 1)
     write(KIND["RTRT"], with_cell("RTRT", 1, "RTPO"), 18, 1)
     write(KIND["Dirf"], with_cell("Dirf", 1, "DIRF"), 18, 1)
     for byte in "|\r\n":
@@ -719,8 +706,8 @@ def writer_order():
     for kind in [0, 74, 75, 255, 256, 261, 65536 + 5, 2**31, 2**32 - 1] + [KIND[name] for name in LATER]:
         write(kind, cells, 22)
         write(kind, [], 22, room=0)
-    for name, rows in ROWS.items():
-        count = len(rows.split())
+    for name in SAMPLES:
+        count = len(ROWS[name])
         write(KIND[name], [], 11)
         write(KIND[name], ["A"] * (count + 1), 11)
         write(KIND[name], ["A"] * (count - 1), 11)
@@ -746,7 +733,7 @@ def writer_order():
     write(KIND["IDREC"], with_cell("IDREC", 2, "056"), 15, 2, room=0)
     write(KIND["DECPF"], with_cell("DECPF", 8, "S"), 19, 9, room=0)
     # the longest line that a record can have
-    longest = ["RRA", "2", "P" * 20, "2", "1" * 14, "N" * 150, "9" * 13]
+    longest = ["RRA", "2", "P" * 20, "2", ones(14), "N" * 150, "9" * 13]
     write(KIND["RRA"], longest, 0)
     check(pj("  " + "|".join(longest) + "|\nFIMDirf"), 0, 5)
     # place and order are the file's concern
@@ -801,10 +788,10 @@ def wrong_checkers():
     masked = with_field("BPFDEC", 2, "529.982.247-25")
     check(SIX.replace("RESPO", with_field("RESPO", 2, "111.444.777-35")), 14, 2, 2)
     check(pf("  IDREC\n    BPFDEC\n      RTRT\n    " + masked + "\n      RTPO\nFIMDirf"), 14, 7, 2)
-    check(pf("  IDREC\n    " + with_field("BPFDEC", 2, "52998224725") + "\n  IDREC|0588|\n    BPFDEC\nFIMDirf"), 0, 8)
+    check(pf("  IDREC\n    " + with_field("BPFDEC", 2, makers.cpf(529982247)) + "\n  IDREC|0588|\n    BPFDEC\nFIMDirf"), 0, 8)
     check(pj("  PROC\n    IDREC\n      BPFDEC\nFIMDirf"), 12, 6, 1)
     check(pj("  PROC|1|9|||||\n  PROC|1|10|||||\nFIMDirf"), 20, 5, 2)
-    check(pf("  SCP\n    " + with_field("BPFSCP", 2, "00000000191") + "\n    BPFSCP\nFIMDirf"), 0, 7)
+    check(pf("  SCP\n    " + with_field("BPFSCP", 2, makers.cpf(1)) + "\n    BPFSCP\nFIMDirf"), 0, 7)
     check(SIX.replace("FIMDirf", "    BPFSCP\nFIMDirf"), 20, 6, 2, room=5, spare=0)
 
 
@@ -815,14 +802,10 @@ def check_lines(lines, breach, line, field=0):
     check_bytes("".join(text + END for text, _ in lines), lines, breach, line, field)
 
 
-# DECPJ's list; below an IDREC it hangs on what that belongs to
-HELD = {"DECPJ": ORDER, "FCI": ["IDREC"], "PROC": ["IDREC"], "RRA": ["IDREC"], "SCP": BLOCKS["SCP"].split(), **BELOW["DECPJ"]}
-
-
 def may_hold(holder, outer, name):
     """Whether a record may stand directly below an open one, which itself stands below an outer one."""
     if holder == "IDREC":
-        return name in BLOCKS.get("" if outer == "DECPJ" else outer, "").split()
+        return name in BLOCKS.get("" if outer == "DECPJ" else outer, [])
     return name in HELD.get(holder, [])
 
 
@@ -838,7 +821,7 @@ def parent_among(opened, name):
 
 # for each record that can be open in that file one that stands below it, with a key that no other passes
 PROBES = [LINE["RTIRF"], LINE["RISCP"], "IDREC|9999|", "PROC|3|9|||||"]
-PROBES += [with_field(name, 2, "9" * 14) for name in ("BPJDEC", "BPJPROC", "BPJSCP", "SCP")]
+PROBES += [with_field(name, 2, makers.cnpj(999999999999)) for name in ("BPJDEC", "BPJPROC", "BPJSCP", "SCP")]
 
 
 def tour_open(before, opened):
@@ -864,7 +847,7 @@ def with_key(text, key):
     return "|".join([cells[0], key] + cells[2:])
 
 
-KEYED = ORDER + " ".join(BLOCKS.values()).split()
+KEYED = ORDER + PEOPLE
 
 
 def tour_before(lines, line, row):
@@ -877,7 +860,7 @@ def tour_before(lines, line, row):
     if row.rule == 21:
         check_lines(before + 2 * [(text, parent)], 21, line + 1, 1)
     elif row.rule == 20 and row.against == 0:
-        least = "1" if name in ("PROC", "RRA") else "0" * len(key)
+        least = "1" if name in ("PROC", "RRA") else makers.key(len(key), 0)
         check_lines(before + [(with_key(text, least), parent)], 1, line + 1)
     elif row.rule == 20:
         there, above = lines[row.against - 1]
@@ -885,7 +868,7 @@ def tour_before(lines, line, row):
         if row.against >= line or (there, above) != (name, parent):
             tour_page.stop(f"line {line}: line {row.against} is not one before it of its kind under its parent")
         check_lines(before + [(with_key(text, key), parent)], 20, line, 2)
-        check_lines(before + [(with_key(text, str(int(key) + 1).zfill(len(key))), parent)], 1, line + 1)
+        check_lines(before + [(with_key(text, makers.key(len(key), makers.serial_of(key) + 1)), parent)], 1, line + 1)
 
 
 def tour():

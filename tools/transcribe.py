@@ -1,10 +1,13 @@
 """Transcribe record tables and nesting out of the two layout texts.
 
 usage: transcribe.py 004 000 [--compare SPECS_DIR]
+       transcribe.py --store SPECS_DIR
 
 004 is the 2025 layout (structure lists, records 3.1 to 3.3), 000 the earlier
 edition (records from 3.4 on).  Without --compare the neutral form goes to
 stdout; with it, every line that only the sources or only the specs have.
+With --store the tables of the specs go to stdout as tools/layout.txt has them;
+that needs no texts.
 Anything in the texts that no rule here expects ends the run with a message.
 """
 import re
@@ -219,28 +222,70 @@ def spec_values(holds, name):
     words.update(identifier=name, sOrN='S,N', cpfOrCnpj='11|14')
     return words.get(holds, holds)  # an unknown word shows up as a difference
 
-def spec_lines(directory):
-    """The specs in the neutral form, with 'name' and 'later' lines beside it."""
+def spec_texts(directory):
+    """The three definition files, without comments and on one line each."""
     texts = [Path(directory, file).read_text(encoding='utf-8')
              for file in ('Kinds.antt', 'Layout.antt', 'Below.antt')]
-    kinds, layout, below = (' '.join(re.sub('--.*', '', text).split()) for text in texts)
-    lines = [f'kind {number} {name}' for name, number in
-             re.findall(rf'abbrev pub ({NAME}) : ℕ \1 = (\d+)\b', kinds)]
-    items = re.findall(r'\( ?(\w+) ?, ?bytes "([^"]*)" ?\)', body(kinds, 'names2025'))
-    lines += [f'name {name} {text}' for name, text in items]
+    return [' '.join(re.sub('--.*', '', text).split()) for text in texts]
+
+def spec_numbers(kinds):
+    """(name, number) of each kind."""
+    return re.findall(rf'abbrev pub ({NAME}) : ℕ \1 = (\d+)\b', kinds)
+
+def spec_names(kinds):
+    """(name, identifier) of each kind."""
+    return re.findall(r'\( ?(\w+) ?, ?bytes "([^"]*)" ?\)', body(kinds, 'names2025'))
+
+def spec_later(kinds):
     part = body(kinds, 'later').split('[]')[0]
-    lines += [f'later {name}' for name in re.findall(r'\w+', part)]
+    return [f'later {name}' for name in re.findall(r'\w+', part)]
+
+def spec_table(layout):
+    """(name, field, [format, fill, size, need], what it holds) of each row."""
     items = re.findall(r'\( ?((?:\w+ ?∷ ?)+)\[\] ?, ?(\w+),? ?\)', body(layout, 'layout2025'))
     for names, rows in items:
         for name in re.findall(r'\w+', names):
             for field, (*row, holds) in enumerate(spec_rows(layout, rows), 1):
-                lines.append(' '.join(['row', name, str(field), *row, spec_values(holds, name)]))
+                yield name, str(field), row, holds
+
+def spec_below(below):
+    lines = []
     for declarant in ('DECPF', 'DECPJ'):
         part = body(below, 'under' + declarant)
         for parent, children in re.findall(r'\( ?(\w+) ?, ?((?:\w+ ?∷ ?)*)\[\],? ?\)', part):
             lines += [f'below {declarant} {parent} {child}'
                       for child in re.findall(r'\w+', children)]
     return lines
+
+def spec_lines(directory):
+    """The specs in the neutral form, with 'name' and 'later' lines beside it."""
+    kinds, layout, below = spec_texts(directory)
+    lines = [f'kind {number} {name}' for name, number in spec_numbers(kinds)]
+    lines += [f'name {name} {text}' for name, text in spec_names(kinds)]
+    lines += spec_later(kinds)
+    lines += [' '.join(['row', name, field, *row, spec_values(holds, name)])
+              for name, field, row, holds in spec_table(layout)]
+    return lines + spec_below(below)
+
+# What tools/layout.txt begins with.
+STORED = """\
+# The tables of crates/dirf/specs, written by `python3 tools/transcribe.py --store crates/dirf/specs`. Do not change it by hand:
+# tests/tables holds it against the definitions, byte for byte.
+# kind NUMBER NAME IDENTIFIER; later NAME; row NAME FIELD FORMAT FILL SIZE NEED HOLDS VALUES; below DECLARANT PARENT CHILD"""
+
+def stored_lines(directory):
+    """The specs as tools/layout.txt has them."""
+    kinds, layout, below = spec_texts(directory)
+    names = dict(spec_names(kinds))
+    numbers = spec_numbers(kinds)
+    if set(names) != {name for name, _ in numbers}:
+        stop('names2025 does not name every kind')
+    lines = [STORED] + [f'kind {number} {name} {names[name]}' for name, number in numbers]
+    lines += spec_later(kinds)
+    for name, field, row, holds in spec_table(layout):
+        word = 'oneOf' if 'oneOf' in holds else holds
+        lines.append(' '.join(['row', name, field, *row, word, spec_values(holds, names[name])]))
+    return lines + spec_below(below)
 
 def compare(kinds, lines, later, directory):
     """Print the differences; their number is the result."""
@@ -261,6 +306,9 @@ def compare(kinds, lines, later, directory):
     return different
 
 def main(arguments):
+    if len(arguments) == 2 and arguments[0] == '--store':
+        print('\n'.join(stored_lines(arguments[1])))
+        return 0
     if len(arguments) not in (2, 4) or arguments[2:3] not in ([], ['--compare']):
         sys.exit(__doc__)
     texts = [Path(path).read_text(encoding='utf-8') for path in arguments[:2]]

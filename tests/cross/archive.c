@@ -5,6 +5,7 @@
 #include <string.h>
 
 #include "../../include/decklesail.h"
+#include "../makers/people.h"
 #include "cases.h"
 #include "chance.h"
 #include "closers.h"
@@ -126,11 +127,15 @@ enum { LONG_LINE = 40, LONG_FILE = 65540 * LONG_LINE };
 /* A file of so many lines: people with ever greater CPFs, and FIMDirf where it is closed. */
 static size_t long_file(uint8_t *file, unsigned lines, int closed)
 {
-    size_t len = (size_t)sprintf((char *)file, "Dirf|2025|2024|N||R6GP3ZA|\r\nRESPO|11144477735|ANA LIMA|11|33334444||||\r\n"
-        "DECPF|11144477735|ANA LIMA|N|N|N|S|N|||N|||||\r\nIDREC|0561|\r\n");
-    for (unsigned n = 5; n < lines + !closed; n++)
-        len += (size_t)sprintf((char *)file + len, "BPFDEC|%011u|A||N|N|\r\n", n);
-    return closed ? len + (size_t)sprintf((char *)file + len, "FIMDirf|\r\n") : len;
+    char *text = (char *)file, cpf[CPF_SIZE + 1] = "";
+    size_t len = (size_t)sprintf(text, "Dirf|2025|2024|N||R6GP3ZA|\r\nRESPO|11144477735|ANA LIMA|11|33334444||||\r\n");
+    len += make_declarant(0, 0, text + len);
+    len += (size_t)sprintf(text + len, "IDREC|0561|\r\n");
+    for (unsigned n = 5; n < lines + !closed; n++) {
+        make_cpf(n, cpf);
+        len += (size_t)sprintf(text + len, "BPFDEC|%s|A||N|N|\r\n", cpf);
+    }
+    return closed ? len + (size_t)sprintf(text + len, "FIMDirf|\r\n") : len;
 }
 
 static size_t with_tail(uint8_t *file, size_t len, const char *tail)

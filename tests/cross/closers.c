@@ -2,6 +2,7 @@
 
 #include <string.h>
 
+#include "../makers/people.h"
 #include "chance.h"
 #include "faults.h"
 #include "sound.h"
@@ -16,20 +17,44 @@ void cut_at_line(file_text *file)
     file->len = ends[chance((uint32_t)count)];
 }
 
+/* Whether the declarant in line 3 says that there is an SCP, and none has come. The file is one of whole lines. */
+static int owes_scp(const file_text *file)
+{
+    int owes = 0;
+    size_t from = 0, start, length, len;
+    for (unsigned number = 1; from < file->len; number++, from += len) {
+        const uint8_t *line = file->bytes + from;
+        len = (size_t)((const uint8_t *)memchr(line, '\n', file->len - from) - line) + 1;
+        unsigned flag = memcmp(line, "DECPJ", 5) == 0 ? DECPJ_SCP_FLAG : DECPF_SCP_FLAG;
+        if (number == 3 && plain_field(line, len, flag, &start, &length))
+            owes = line[start] == 'S';
+        if (memcmp(line, "SCP|", 4) == 0)
+            return 0;
+    }
+    return owes;
+}
+
+static unsigned put_line(file_text *file, const char *line)
+{
+    memcpy(file->bytes + file->len, line, strlen(line));
+    file->len += strlen(line);
+    return 1;
+}
+
 unsigned close_file(file_text *file, unsigned lines)
 {
-    static const char *const closers[] = {
-        "Dirf|2025|2024|N||R6GP3ZA|\r\n",
-        "RESPO|11144477735|ANA LIMA|11|33334444||||\r\n",
-        "DECPF|11144477735|ANA LIMA|N|N|N|S|N|||N|||||\r\n",
-        "FIMDirf|\r\n",
-    };
-    unsigned first = lines < 3 ? lines : 3;
-    for (unsigned i = first; i < 4; i++) {
-        memcpy(file->bytes + file->len, closers[i], strlen(closers[i]));
-        file->len += strlen(closers[i]);
-    }
-    return 4 - first;
+    char declarant[100];
+    unsigned more = 0;
+    make_declarant(0, 0, declarant);
+    if (lines < 1)
+        more += put_line(file, "Dirf|2025|2024|N||R6GP3ZA|\r\n");
+    if (lines < 2)
+        more += put_line(file, "RESPO|11144477735|ANA LIMA|11|33334444||||\r\n");
+    if (lines < 3)
+        more += put_line(file, declarant);
+    if (owes_scp(file))
+        more += put_line(file, "SCP|11222333000181|SCP SERRA|\r\n");
+    return more + put_line(file, "FIMDirf|\r\n");
 }
 
 void add_tail(file_text *file)

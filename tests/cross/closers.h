@@ -7,7 +7,8 @@
 /* The file up to the end of one of its lines, or up to its begin. */
 void cut_at_line(file_text *file);
 
-/* Puts the lines behind it that close a file of so many whole lines: at most four. Gives how many. */
+/* Puts the lines behind it that close a file of so many whole lines, with the SCP that its declarant's flag asks for: at most four.
+   Gives how many. */
 unsigned close_file(file_text *file, unsigned lines);
 
 /* Puts a tail of whole lines, of broken ones or of any bytes behind it. */

@@ -2,6 +2,7 @@
 
 #include <string.h>
 
+#include "../makers/people.h"
 #include "../plain/plain_inner.h"
 #include "chance.h"
 #include "sound.h"
@@ -284,7 +285,10 @@ static int not_greater(declaration *d)
     if (chance(2) || !find_field(line, 2, &start, &len) || len == 0 || len > sizeof text)
         return repeat_line(d, at);
     memset(text, '0', len);
-    text[len - 1] = (uint8_t)('0' + chance(3));
+    if (len == CPF_SIZE || len == CNPJ_SIZE)
+        make_identity(len, chance(3), (char *)text);
+    else
+        text[len - 1] = (uint8_t)('0' + chance(3));
     set_field(line, 2, text, len);
     return 1;
 }

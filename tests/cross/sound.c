@@ -3,6 +3,7 @@
 #include <stdio.h>
 #include <string.h>
 
+#include "../makers/people.h"
 #include "../plain/plain_inner.h"
 #include "chance.h"
 
@@ -61,6 +62,14 @@ static unsigned some_date(uint8_t *out)
     return 8;
 }
 
+/* Of a row that holds a CPF or a CNPJ its size, else 0: no other field of digits has a fixed 11 or 14. */
+static unsigned identity_size(const plain_row *row)
+{
+    if (row->cpf_or_cnpj)
+        return chance(2) ? CPF_SIZE : CNPJ_SIZE;
+    return row->format == 'N' && row->fixed && (row->size == CPF_SIZE || row->size == CNPJ_SIZE) ? row->size : 0;
+}
+
 unsigned sound_field(const plain_row *row, uint8_t *out)
 {
     if (!row->obligatory && chance(2) == 0)
@@ -73,8 +82,11 @@ unsigned sound_field(const plain_row *row, uint8_t *out)
         return sound_digits(2, out);
     if (row->telephone)
         return some_digits(8 + chance(2), out);
-    if (row->cpf_or_cnpj)
-        return some_digits(chance(2) ? 11 : 14, out);
+    unsigned identity = identity_size(row);
+    if (identity) {
+        make_identity(identity, chance64(), (char *)out);
+        return identity;
+    }
     unsigned size = row->fixed || chance(8) == 0 ? row->size : 1 + chance(row->size);
     if (row->amount || row->months)
         return sound_digits(size, out);
@@ -112,7 +124,10 @@ static void rising_key(text_line *line, unsigned digits, uint64_t *key)
 {
     char text[32];
     *key += 1 + chance(chance(2) ? 3 : 4000);
-    snprintf(text, sizeof text, "%0*llu", (int)digits, (unsigned long long)*key);
+    if (digits == CPF_SIZE || digits == CNPJ_SIZE)
+        make_identity(digits, *key, text);
+    else
+        snprintf(text, sizeof text, "%0*llu", (int)digits, (unsigned long long)*key);
     set_field(line, 2, text, digits);
 }
 
@@ -201,6 +216,16 @@ static void keep_conditions(text_line *line)
         set_field(line, 11, "S", 1);
 }
 
+/* The declarant's flags: SCP is S exactly when there is such a block, and PSE, which is left for later, is N. */
+static void keep_flags(declaration *d, text_line *declarant)
+{
+    int company = d->declarant == DECPJ, has_scp = 0;
+    for (unsigned i = 0; i < d->count; i++)
+        has_scp |= d->line[i].kind == SCP;
+    set_field(declarant, company ? DECPJ_SCP_FLAG : DECPF_SCP_FLAG, has_scp ? "S" : "N", 1);
+    set_field(declarant, company ? DECPJ_PSE_FLAG : DECPF_PSE_FLAG, "N", 1);
+}
+
 void sound_declaration(declaration *d)
 {
     d->count = 0;
@@ -217,5 +242,6 @@ void sound_declaration(declaration *d)
     }
     blocks(d, RRA, BPFRRA, 0);
     blocks(d, SCP, BPFSCP, BPJSCP);
+    keep_flags(d, line);
     add(d, FIMDIRF);
 }

@@ -1,4 +1,4 @@
-/* Whole declarations: lines, fields, places and order as document 01 has them. */
+/* Whole declarations: lines, fields, places and order as document 01 has them, check digits and the declarant's flags right too. */
 #ifndef SOUND_H
 #define SOUND_H
 

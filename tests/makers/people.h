@@ -1,0 +1,25 @@
+/* Makers for the files of the suites: a CPF or a CNPJ of a serial number, and a declarant's line whose flags follow from its blocks.
+   What they make is right: check digits by modulo 11, which are worked out here and in tools/makers.py and nowhere else, and each flag S
+   exactly when its block is there. Greater serial numbers give greater CPFs and CNPJs. */
+#ifndef PEOPLE_H
+#define PEOPLE_H
+
+#include <stddef.h>
+#include <stdint.h>
+
+enum { CPF_SIZE = 11, CNPJ_SIZE = 14 };
+
+/* The declarant's field that says whether there is such a block: 004's 3.3, 000's 3.4. */
+enum { DECPF_PSE_FLAG = 6, DECPF_SCP_FLAG = 7, DECPJ_SCP_FLAG = 6, DECPJ_PSE_FLAG = 10 };
+
+/* Write CPF_SIZE and CNPJ_SIZE digits and no more; of the serial number the last 9 and 12 digits are taken. */
+void make_cpf(uint64_t serial, char *out);
+void make_cnpj(uint64_t serial, char *out);
+
+/* A CPF or a CNPJ, by its size. */
+void make_identity(unsigned size, uint64_t serial, char *out);
+
+/* The line of a declarant, with its CR LF, and a NUL behind it: DECPJ where it is a company, else DECPF. Gives its bytes, at most 80. */
+size_t make_declarant(int company, int has_scp, char *out);
+
+#endif
