@@ -1,3 +1,4 @@
+pub mod Lines
 pub mod State
 pub mod Turn
 pub mod Answers

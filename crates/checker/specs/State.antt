@@ -1,19 +1,22 @@
--- The rules that look back, asked of the state, and the state after a line. These are the code's own steps; that they are document 01's
--- rules is proved of the whole turn.
-use Prim.Native.Nat.{ℕ, zero, suc, _+_}
+-- The rules that look back, asked of the state, and the state after a record. These are the code's own steps; that they are document
+-- 01's rules is proved of what the state sums up.
+use Prim.Native.Nat.{ℕ, zero, suc, _+_, _*_, _≤_, _<_}
 use mathlib.Core.Bool.{Bool, true, false, _&&_, _||_, not}
 use mathlib.Core.List.{List, []}
 use lib.Dec.{eqb, ltb, leb}
 use lib.ListN.{length, getD, set, replicate}
 use Rattle.dirf.specs.Bytes.{if_then_else_, Text, isIn}
-use Rattle.dirf.specs.Kinds.{FIMDirf, isValue}
-use Rattle.dirf.specs.Edition.{edition2025}
-use Rattle.dirf.specs.Tree.{opening, mayHold}
-use Rattle.dirf.specs.Keys.{hasKey, keyLess}
+use Rattle.dirf.specs.Limits.{lineLimit, linesLimit}
+use Rattle.dirf.specs.Kinds.{FIMDirf, isLater, opensNothing, standsOnce}
+use Rattle.dirf.specs.Lines.{fields}
+use Rattle.dirf.specs.Rules.{Found, given, orElse}
+use Rattle.dirf.specs.Tree.{opening}
+use Rattle.dirf.specs.Keys.{hasKey, keyOf, keyLess}
 use Rattle.fields.specs.Places.{partOf, keyParts}
-use Rattle.fields.specs.declared.Places.{Places}
-use Rattle.checker.specs.declared.KeyPlaces.{KeyPlaces}
-use Rattle.checker.specs.declared.State.{State}
+use Rattle.layout.specs.Tables.{kinds, holdsIn}
+use Rattle.checker.specs.declared.state.Path.{Path}
+use Rattle.checker.specs.declared.state.Past.{Past}
+use Rattle.checker.specs.declared.state.State.{State}
 
 -- how deep open records can stand: the declarant, a block, an IDREC, a beneficiary
 abbrev pub deepest : ℕ
@@ -26,14 +29,8 @@ startState =
       at = 0;
       done = false;
       declarant = 0;
-      depth = 0;
-      lines = replicate deepest 0;
-      kinds = replicate deepest 0;
-      start2 = replicate deepest 0;
-      len2 = replicate deepest 0;
-      start3 = replicate deepest 0;
-      len3 = replicate deepest 0;
-      seen = replicate 74 false;
+      path = record { depth = 0; lines = replicate deepest 0; kinds = replicate deepest 0 };
+      past = record { under = replicate kinds 0; starts = replicate kinds 0; lens = replicate kinds 0 };
     }
 
 -- of the open records' lines or kinds, the one of what open record i belongs to
@@ -42,91 +39,85 @@ above opened zero = 0
 above opened (suc i) = getD opened i 0
 
 -- of the first i open records, how many stay open for a record of kind k: those down to the innermost that may hold it
-unfoldable pub heldIn : ℕ → List ℕ → ℕ → ℕ → ℕ
-heldIn d kinds k zero = 0
-heldIn d kinds k (suc i) = if mayHold edition2025 d (getD kinds i 0) (above kinds i) k then suc i else heldIn d kinds k i
+unfoldable pub heldIn : List (List ℕ) → ℕ → List ℕ → ℕ → ℕ → ℕ
+heldIn below d opened k zero = 0
+heldIn below d opened k (suc i) = if holdsIn below d (getD opened i 0) (above opened i) k then suc i else heldIn below d opened k i
 
-unfoldable pub heldAt : State → ℕ → ℕ
-heldAt st k = heldIn (st .declarant) (st .kinds) k (st .depth)
+-- the opening lines belong to nothing
+unfoldable pub heldAt : List (List ℕ) → State → ℕ → ℕ
+heldAt below st k = if ltb (st .count) (length opening) then 0 else heldIn below (st .declarant) (st .path .kinds) k (st .path .depth)
 
 -- not before the one that opened last there
-unfoldable pub orderAt : List ℕ → ℕ → ℕ → ℕ → Bool
-orderAt kinds depth k d = if ltb d depth then leb (getD kinds d 0) k else true
+unfoldable pub orderAt : Path → ℕ → ℕ → Bool
+orderAt p k d = if ltb d (p .depth) then leb (getD (p .kinds) d 0) k else true
 
 -- from line 4 on
-unfoldable pub belowOn : State → ℕ → ℕ → Bool
-belowOn st k d = eqb k FIMDirf || ltb 0 d && orderAt (st .kinds) (st .depth) k d
+unfoldable pub belowOn : Path → ℕ → ℕ → Bool
+belowOn p k d = eqb k FIMDirf || ltb 0 d && orderAt p k d
 
 unfoldable pub standsOn : State → ℕ → ℕ → Bool
-standsOn st k d =
-    if ltb (st .count) (length opening) then isIn k (getD opening (st .count) []) else belowOn st k d
+standsOn st k d = if ltb (st .count) (length opening) then isIn k (getD opening (st .count) []) else belowOn (st .path) k d
 
-unfoldable pub seenOn : List Bool → ℕ → Bool
-seenOn seen k = isValue k && getD seen k false
+-- 9, 10 and 12
+unfoldable pub placeFound : State → ℕ → ℕ → Found
+placeFound st k d = orElse (given 9 1 (eqb k 0)) (orElse (given 10 1 (isLater k)) (given 12 1 (not (standsOn st k d))))
 
--- where fields 2 and 3 of the line at `at` stand in the file
-unfoldable pub keyPlaces : Places → ℕ → KeyPlaces
-keyPlaces p at =
-    record {
-      start2 = at + getD (p .starts) 1 0;
-      len2 = getD (p .lens) 1 0;
-      start3 = at + getD (p .starts) 2 0;
-      len3 = getD (p .lens) 2 0;
-    }
+-- it stood under line p last
+unfoldable pub stoodOn : Past → ℕ → ℕ → Bool
+stoodOn past k p = eqb (getD (past .under) k 0) p
 
--- the key of open record d comes before the one at these places
-unfoldable pub keyBefore : Text → State → ℕ → ℕ → KeyPlaces → Bool
-keyBefore file st k d q =
-    keyLess
-    (keyParts k (partOf file (getD (st .start2) d 0) (getD (st .len2) d 0)) (partOf file (getD (st .start3) d 0) (getD (st .len3) d 0)))
-    (keyParts k (partOf file (q .start2) (q .len2)) (partOf file (q .start3) (q .len3)))
+-- 21
+unfoldable pub repeatedOn : Past → ℕ → ℕ → Bool
+repeatedOn past k p = standsOnce k && stoodOn past k p
 
--- the one before it, if it is of the same kind
-unfoldable pub keyAfter : Text → State → ℕ → ℕ → KeyPlaces → Bool
-keyAfter file st k d q = if ltb d (st .depth) then (if eqb (getD (st .kinds) d 0) k then keyBefore file st k d q else true) else true
+-- the last line of kind k, out of the text that it stands in
+unfoldable pub lastLine : Text → Past → ℕ → Text
+lastLine text past k = partOf text (getD (past .starts) k 0) (getD (past .lens) k 0)
 
-unfoldable pub keyOn : Text → State → ℕ → ℕ → KeyPlaces → Bool
-keyOn file st k d q = hasKey k && not (keyAfter file st k d q)
+-- 20, of a record with these fields 2 and 3
+unfoldable pub keyOn : Text → Past → ℕ → ℕ → Text → Text → Bool
+keyOn text past k p second third =
+    hasKey k && (stoodOn past k p && not (keyLess (keyOf k (fields (lastLine text past k))) (keyParts k second third)))
+
+unfoldable pub lookFound : Text → Past → ℕ → ℕ → Text → Text → Found
+lookFound text past k p second third = orElse (given 21 1 (repeatedOn past k p)) (given 20 2 (keyOn text past k p second third))
 
 unfoldable pub declarantOf : State → ℕ → ℕ
 declarantOf st k = if eqb (st .count) 2 then k else st .declarant
 
--- after a value record
-abbrev pub afterValue : State → ℕ → ℕ → State
-afterValue st k len =
+-- the open records after record n, which has d of them outside it
+unfoldable pub pathAfter : Path → ℕ → ℕ → ℕ → Path
+pathAfter p k d n =
+    if opensNothing k then record { depth = d; lines = p .lines; kinds = p .kinds }
+    else record { depth = d + 1; lines = set (p .lines) d n; kinds = set (p .kinds) d k }
+
+unfoldable pub pastAfter : Past → ℕ → ℕ → ℕ → ℕ → Past
+pastAfter p k parent start len =
+    record { under = set (p .under) k parent; starts = set (p .starts) k start; lens = set (p .lens) k len }
+
+-- after a line of so many bytes that was taken
+unfoldable pub stateAfter : State → ℕ → ℕ → ℕ → State
+stateAfter st k d len =
     record {
       count = st .count + 1;
       at = st .at + len + 2;
       done = eqb k FIMDirf;
       declarant = declarantOf st k;
-      depth = st .depth;
-      lines = st .lines;
-      kinds = st .kinds;
-      start2 = st .start2;
-      len2 = st .len2;
-      start3 = st .start3;
-      len3 = st .len3;
-      seen = set (st .seen) k true;
+      path = pathAfter (st .path) k d (st .count + 1);
+      past = pastAfter (st .past) k (above (st .path .lines) d) (st .at) len;
     }
 
--- after a record that opens, with d open records outside it
-abbrev pub afterOpening : State → ℕ → ℕ → ℕ → KeyPlaces → State
-afterOpening st k d len q =
-    record {
-      count = st .count + 1;
-      at = st .at + len + 2;
-      done = eqb k FIMDirf;
-      declarant = declarantOf st k;
-      depth = d + 1;
-      lines = set (st .lines) d (st .count + 1);
-      kinds = set (st .kinds) d k;
-      start2 = set (st .start2) d (q .start2);
-      len2 = set (st .len2) d (q .len2);
-      start3 = set (st .start3) d (q .start3);
-      len3 = set (st .len3) d (q .len3);
-      seen = replicate 74 false;
-    }
+-- the longest line with its end
+abbrev pub lineBytes : ℕ
+lineBytes = lineLimit + 2
 
--- after a line that was taken
-unfoldable pub commitState : State → ℕ → ℕ → ℕ → KeyPlaces → State
-commitState st k d len q = if isValue k then afterValue st k len else afterOpening st k d len q
+-- what every state keeps, so that its numbers fit
+pub record Near (st : State) : Type 0 where
+  pub few : st .count ≤ linesLimit
+  pub near : st .at ≤ lineBytes * st .count
+  pub shallow : st .path .depth ≤ deepest
+
+-- and where one more line may be read
+pub record Safe (st : State) : Type 0 where
+  pub fewer : st .count < linesLimit
+  pub near : Near st

@@ -6,7 +6,7 @@ use mathlib.Core.Logic.{_≢_, _⊎_, inl, inr, ⊎-elim}
 use mathlib.Core.List.{List, [], _∷_, _++_, append-nil, cons≢nil}
 use native.Mathlib.Omega.{arith}
 use lib.Dec.{eqb, ltb}
-use lib.ListN.{length, take, drop, length-append}
+use lib.ListN.{length, take, drop}
 use lib.Seq.{take-append-seam, drop-append-add}
 use borrow.Author.Tests.{eqb-true, eqb-false, eq-eqb, ltb-false}
 use Rattle.dirf.specs.Bytes.{if_then_else_, Text, isEmpty}
@@ -18,8 +18,7 @@ use Rattle.dirf.specs.Theorems.Plain.{NoLineEnd}
 use Rattle.dirf.proofs.Bools.{if-cases}
 use Rattle.dirf.proofs.CleanLaws.{lineEnd-says, clean-none, clean-unclean, clean-front, unclean-front, unclean-begins}
 use Rattle.dirf.proofs.WholeLaws.{pieces-front, line-piece, rest-piece}
-use Rattle.checker.specs.Turn.{bad, endOf, lineAt}
-use Rattle.checker.specs.declared.Line.{Line}
+use Rattle.checker.specs.Lines.{endOf, numberAt}
 
 -- 4, 5 and 6 of a piece
 unfoldable pub scanFound : Piece → Found
@@ -33,19 +32,18 @@ unfoldable pub foundOf : ℕ → Found
 foundOf zero = keeps
 foundOf (suc n) = breaks (suc n) 0
 
--- what is known of a line that is whole
-pub record WholeLine (s : Text) (len : ℕ) (piece : Piece) (rest : List Piece) : Type 0 where
-  pub is-piece : piece ≡ record { body = take len s; ended = true }
-  pub is-rest : rest ≡ pieces (drop (len + 2) s)
-  pub inside : len + 2 ≤ length s
-  pub short : len ≤ 1024
+-- what is known of a line c that is whole
+pub record WholeLine (s c : Text) (piece : Piece) (rest : List Piece) : Type 0 where
+  pub is-piece : piece ≡ record { body = c; ended = true }
+  pub is-rest : rest ≡ pieces (drop (length c + 2) s)
+  pub short : length c ≤ lineLimit
 
-pub record Read (s : Text) (l : Line) : Type 0 where
+pub record Read (s c : Text) (n : ℕ) : Type 0 where
   pub piece : Piece
   pub rest : List Piece
   pub first : pieces s ≡ piece ∷ rest
-  pub told : scanFound piece ≡ foundOf (l .number)
-  pub whole : l .number ≡ 0 → WholeLine s (l .len) piece rest
+  pub told : scanFound piece ≡ foundOf n
+  pub whole : n ≡ 0 → WholeLine s c piece rest
 
 -- a file that is not ended ends in a byte
 begins : (b : ℕ) (s : Text) → (q : Piece) × (qs : List Piece) × (pieces (b ∷ s) ≡ q ∷ qs) × (q .ended ≡ false → q .body ≢ [])
@@ -54,69 +52,71 @@ begins b [] = (record { body = b ∷ []; ended = false }, [], refl, λ _. cons�
 begins b (c ∷ s) = go (eqb b CR && eqb c LF) (pieces (c ∷ s))
   where
     go : (t : Bool) (ps : List Piece)
-        → (q : Piece) × (qs : List Piece) × ((if t then record { body = []; ended = true } ∷ pieces s else push b ps) ≡ q ∷ qs) × (q .ended ≡ false → q .body ≢ [])
+        → (q : Piece) × (qs : List Piece) × ((if t then record { body = []; ended = true } ∷ pieces s else push b ps) ≡ q ∷ qs)
+        × (q .ended ≡ false → q .body ≢ [])
     go true ps = (record { body = []; ended = true }, pieces s, refl, λ e. absurd (true≢false e))
     go false [] = (record { body = b ∷ []; ended = false }, [], refl, λ _. cons≢nil)
     go false (p ∷ ps) = (record { body = b ∷ p .body; ended = p .ended }, ps, refl, λ _. cons≢nil)
 
 module _ (c : Text) (n : NoLineEnd c) where
   -- 4, where it is too long; else what comes next
-  longer : (p : Piece) (u : Text) (l : Line) → p .body ≡ c ++ u → unclean u ≡ u → clean u ≡ []
-      → orElse (given 5 0 (not (p .ended) && nothingOrCR u)) (given 6 0 (not (isEmpty u))) ≡ foundOf (l .number)
-      → scanFound p ≡ foundOf ((if ltb lineLimit (length c) then bad 4 else l) .number)
+  longer : (p : Piece) (u : Text) (n : ℕ) → p .body ≡ c ++ u → unclean u ≡ u → clean u ≡ []
+      → orElse (given 5 0 (not (p .ended) && nothingOrCR u)) (given 6 0 (not (isEmpty u))) ≡ foundOf n
+      → scanFound p ≡ foundOf (if ltb lineLimit (length c) then 4 else n)
   unfolding scanFound orElse given foundOf
-  longer p u l e q w k =
+  longer p u m e q w k =
       rw (e, clean-front c u n, unclean-front c u n, w, q, append-nil)
-      (if-cases (λ (m : Line). orElse (given 4 0 (ltb lineLimit (length c))) (orElse (given 5 0 (not (p .ended) && nothingOrCR u)) (given 6 0 (not (isEmpty u)))) ≡ foundOf (m .number))
+      (if-cases
+      (λ m. orElse (given 4 0 (ltb lineLimit (length c))) (orElse (given 5 0 (not (p .ended) && nothingOrCR u)) (given 6 0 (not (isEmpty u))))
+      ≡ foundOf m)
       (ltb lineLimit (length c)) (λ t. rw t) (λ t. rw t k))
 
   -- a number that is not 0 is not a whole line
   not-whole : (s : Text) (m : ℕ) (p : Piece) (rest : List Piece) → m ≢ 0
-      → (if ltb lineLimit (length c) then bad 4 else bad m) .number ≡ 0 → WholeLine s ((if ltb lineLimit (length c) then bad 4 else bad m) .len) p rest
+      → (if ltb lineLimit (length c) then 4 else m) ≡ 0 → WholeLine s c p rest
   not-whole s m p rest z =
-      if-cases (λ (l : Line). l .number ≡ 0 → WholeLine s (l .len) p rest) (ltb lineLimit (length c)) (λ t e. absurd (omega arith)) (λ t e. absurd (z e))
+      if-cases (λ n. n ≡ 0 → WholeLine s c p rest) (ltb lineLimit (length c)) (λ t e. absurd (omega arith)) (λ t e. absurd (z e))
 
   -- the end of the input
-  at-end : (b : ℕ) (s : Text) → b ∷ s ≡ c → Read (b ∷ s) (if ltb lineLimit (length c) then bad 4 else endOf (length c) [])
+  at-end : (b : ℕ) (s : Text) → b ∷ s ≡ c → Read (b ∷ s) c (if ltb lineLimit (length c) then 4 else endOf [])
   unfolding endOf foundOf given orElse nothingOrCR isEmpty clean unclean
   at-end b s e =
       record {
         piece = record { body = b ∷ s; ended = false };
         rest = [];
         first = rest-piece b s (subst NoLineEnd (sym e) n);
-        told = longer (record { body = b ∷ s; ended = false }) [] (bad 5) (e ∙ sym (append-nil c)) refl refl refl;
+        told = longer (record { body = b ∷ s; ended = false }) [] 5 (e ∙ sym (append-nil c)) refl refl refl;
         whole = not-whole (b ∷ s) 5 _ _ (λ z. omega arith);
       }
 
   -- a CR or LF that is not a line's end, or that the input ends behind
   stopped-at : (r : Text) (q : Piece) (qs : List Piece) (m : ℕ) → pieces r ≡ q ∷ qs → unclean (q .body) ≡ q .body → clean (q .body) ≡ [] → m ≢ 0
-      → orElse (given 5 0 (not (q .ended) && nothingOrCR (q .body))) (given 6 0 (not (isEmpty (q .body)))) ≡ foundOf m → endOf (length c) r ≡ bad m
-      → Read (c ++ r) (if ltb lineLimit (length c) then bad 4 else endOf (length c) r)
+      → orElse (given 5 0 (not (q .ended) && nothingOrCR (q .body))) (given 6 0 (not (isEmpty (q .body)))) ≡ foundOf m → endOf r ≡ m
+      → Read (c ++ r) c (if ltb lineLimit (length c) then 4 else endOf r)
   stopped-at r q qs m e u w z f t =
       rw t
       (record {
         piece = record { body = c ++ q .body; ended = q .ended };
         rest = qs;
         first = pieces-front c r q qs n e;
-        told = longer (record { body = c ++ q .body; ended = q .ended }) (q .body) (bad m) refl u w f;
+        told = longer (record { body = c ++ q .body; ended = q .ended }) (q .body) m refl u w f;
         whole = not-whole (c ++ r) m _ _ z;
       })
 
   -- CR LF
-  ended-at : (t : Text) → Read (c ++ (CR ∷ LF ∷ t)) (if ltb lineLimit (length c) then bad 4 else endOf (length c) (CR ∷ LF ∷ t))
+  ended-at : (t : Text) → Read (c ++ (CR ∷ LF ∷ t)) c (if ltb lineLimit (length c) then 4 else endOf (CR ∷ LF ∷ t))
   unfolding endOf foundOf given orElse nothingOrCR isEmpty clean unclean
   ended-at t =
       record {
         piece = record { body = c; ended = true };
         rest = pieces t;
         first = line-piece c t n;
-        told = longer (record { body = c; ended = true }) [] (record { number = 0; len = length c }) (sym (append-nil c)) refl refl refl;
-        whole = if-cases (λ (l : Line). l .number ≡ 0 → WholeLine (c ++ (CR ∷ LF ∷ t)) (l .len) (record { body = c; ended = true }) (pieces t)) (ltb lineLimit (length c))
+        told = longer (record { body = c; ended = true }) [] 0 (sym (append-nil c)) refl refl refl;
+        whole = if-cases (λ n. n ≡ 0 → WholeLine (c ++ (CR ∷ LF ∷ t)) c (record { body = c; ended = true }) (pieces t)) (ltb lineLimit (length c))
             (λ w e. absurd (omega arith))
             (λ w e. record {
-              is-piece = ap (λ x. record { body = x; ended = true }) (sym (take-append-seam c (CR ∷ LF ∷ t)));
+              is-piece = refl;
               is-rest = ap pieces (sym (drop-append-add c (CR ∷ LF ∷ t) 2));
-              inside = simp length-append (omega arith);
               short = ltb-false lineLimit (length c) w;
             });
       }
@@ -141,15 +141,15 @@ goes-on b q h = go (q .ended) (q .body) h
 module _ (c : Text) (n : NoLineEnd c) where
   -- two bytes and more, the first a CR or LF
   two-bytes : (b d : ℕ) (t : Text) → (b ≡ 13) ⊎ (b ≡ 10)
-      → Read (c ++ (b ∷ d ∷ t)) (if ltb lineLimit (length c) then bad 4 else endOf (length c) (b ∷ d ∷ t))
+      → Read (c ++ (b ∷ d ∷ t)) c (if ltb lineLimit (length c) then 4 else endOf (b ∷ d ∷ t))
   unfolding endOf foundOf given orElse isEmpty pieces push
   two-bytes b d t h = go (eqb b CR) (eqb d LF) refl refl
     where
       q : Piece
       q = begins d t .0
 
-      stray : (eqb b CR && eqb d LF) ≡ false → endOf (length c) (b ∷ d ∷ t) ≡ bad 6
-          → Read (c ++ (b ∷ d ∷ t)) (if ltb lineLimit (length c) then bad 4 else endOf (length c) (b ∷ d ∷ t))
+      stray : (eqb b CR && eqb d LF) ≡ false → endOf (b ∷ d ∷ t) ≡ 6
+          → Read (c ++ (b ∷ d ∷ t)) c (if ltb lineLimit (length c) then 4 else endOf (b ∷ d ∷ t))
       stray no-pair six =
           let o = begins d t in
           stopped-at c n (b ∷ d ∷ t) (record { body = b ∷ o .0 .body; ended = o .0 .ended }) (o .1) 6
@@ -158,19 +158,19 @@ module _ (c : Text) (n : NoLineEnd c) where
           (rw (goes-on b (o .0) (o .3))) six
 
       go : (x y : Bool) → eqb b CR ≡ x → eqb d LF ≡ y
-          → Read (c ++ (b ∷ d ∷ t)) (if ltb lineLimit (length c) then bad 4 else endOf (length c) (b ∷ d ∷ t))
+          → Read (c ++ (b ∷ d ∷ t)) c (if ltb lineLimit (length c) then 4 else endOf (b ∷ d ∷ t))
       go true true x y = rw (eqb-true b CR x, eqb-true d LF y) (ended-at c n t)
       go true false x y = stray (rw (x, y)) (rw (eqb-true b CR x, y))
       go false y x z = stray (rw x) (rw (⊎-elim (λ e. absurd (eqb-false b CR x e)) (eq-eqb b LF) h))
 
   read-from : (u : Text) → ((b : ℕ) (t : Text) → u ≡ b ∷ t → (b ≡ 13) ⊎ (b ≡ 10)) → 0 < length (c ++ u)
-      → Read (c ++ u) (if ltb lineLimit (length c) then bad 4 else endOf (length c) u)
+      → Read (c ++ u) c (if ltb lineLimit (length c) then 4 else endOf u)
   unfolding endOf foundOf given orElse isEmpty pieces push nothingOrCR
   read-from [] h l = go c refl
     where
-      go : (s : Text) → c ≡ s → Read (c ++ []) (if ltb lineLimit (length c) then bad 4 else bad 5)
+      go : (s : Text) → c ≡ s → Read (c ++ []) c (if ltb lineLimit (length c) then 4 else 5)
       go [] e = absurd (omega (arith, ap length (append-nil c ∙ e)))
-      go (b ∷ s) e = subst (λ x. Read x (if ltb lineLimit (length c) then bad 4 else bad 5)) (sym (append-nil c ∙ e)) (at-end c n b s (sym e))
+      go (b ∷ s) e = subst (λ x. Read x c (if ltb lineLimit (length c) then 4 else 5)) (sym (append-nil c ∙ e)) (at-end c n b s (sym e))
   read-from (b ∷ []) h l =
       ⊎-elim
       (λ e. stopped-at c n (b ∷ []) (record { body = b ∷ []; ended = false }) [] 5 refl (starts-unclean b [] (inl e) .0) (starts-unclean b [] (inl e) .1) (λ z. omega arith) (rw e) (rw e))
@@ -178,8 +178,12 @@ module _ (c : Text) (n : NoLineEnd c) where
       (h b [] refl)
   read-from (b ∷ d ∷ t) h l = two-bytes b d t (h b (d ∷ t) refl)
 
-pub read : (s : Text) → 0 < length s → Read s (lineAt s)
-unfolding lineAt
+pub read : (s : Text) → 0 < length s → Read s (clean s) (numberAt s)
+unfolding numberAt
 read s h =
-    subst (λ x. Read x (if ltb lineLimit (length (clean s)) then bad 4 else endOf (length (clean s)) (unclean s))) (sym (clean-unclean s))
+    subst (λ x. Read x (clean s) (if ltb lineLimit (length (clean s)) then 4 else endOf (unclean s))) (sym (clean-unclean s))
     (read-from (clean s) (clean-none s) (unclean s) (λ b t e. unclean-begins s b t e) (subst (λ x. 0 < length x) (clean-unclean s) h))
+
+-- the line is what stands at its place
+pub line-is : (s : Text) → take (length (clean s)) s ≡ clean s
+line-is s = ap (take (length (clean s))) (clean-unclean s) ∙ take-append-seam (clean s) (unclean s)

@@ -1,0 +1,46 @@
+-- What the code's tests read of a line, byte by byte.
+use Prim.Native.Nat.{ℕ, zero, suc, _-_, _≤_, _<_}
+use mathlib.Core.Path.{_≡_, refl, ap, _∙_}
+use mathlib.Core.Bool.{Bool, true, false}
+use mathlib.Core.List.{[], _∷_}
+use native.Mathlib.Omega.{arith}
+use lib.Dec.{eqb, leb}
+use lib.ListN.{length, getD, drop}
+use borrow.Author.Tests.{lt-leb}
+use Rattle.dirf.specs.Bytes.{if_then_else_, Text, endsWith}
+use Rattle.dirf.specs.Lines.{isLineEnd, clean, unclean}
+use Rattle.checker.specs.Lines.{endOf}
+
+-- what stands behind the bytes of a line
+pub drop-clean : (s : Text) → drop (length (clean s)) s ≡ unclean s
+unfolding clean unclean
+drop-clean [] = refl
+drop-clean (b ∷ s) = go (isLineEnd b) (drop-clean s)
+  where
+    go : (t : Bool) → drop (length (clean s)) s ≡ unclean s
+        → drop (length (if t then [] else b ∷ clean s)) (b ∷ s) ≡ (if t then b ∷ s else unclean s)
+    go true e = refl
+    go false e = e
+
+-- the last byte
+pub last-none : (b : ℕ) (s : Text) → length s ≤ 0 → false ≡ endsWith b s
+unfolding endsWith
+last-none b [] h = refl
+last-none b (c ∷ s) h = absurd (omega arith)
+
+pub last-at : (b : ℕ) (s : Text) → 0 < length s → eqb (getD s (length s - 1) 0) b ≡ endsWith b s
+unfolding endsWith
+last-at b [] h = absurd (omega arith)
+last-at b (c ∷ []) h = refl
+last-at b (c ∷ d ∷ s) h =
+    let e : suc (suc (length s)) - 1 ≡ suc (suc (length s) - 1) = omega arith in
+    ap (λ i. eqb (getD (c ∷ d ∷ s) i 0) b) e ∙ last-at b (d ∷ s) (omega arith)
+
+-- what ends a line, test by test
+pub ended : (u : Text)
+    → endOf u
+    ≡ (if leb (length u) 0 then 5 else if eqb (getD u 0 0) 10 then 6 else if leb (length u) 1 then 5 else if eqb (getD u 1 0) 10 then 0 else 6)
+unfolding endOf
+ended [] = refl
+ended (b ∷ []) = refl
+ended (b ∷ c ∷ u) = rw (lt-leb (suc (suc (length u))) 0 (omega arith), lt-leb (suc (suc (length u))) 1 (omega arith))
