@@ -1,4 +1,5 @@
--- An arm of a range in a `match` on a number: what it is told of the number, and one computed test over the numbers that may reach it, give its answer.
+-- An arm of a range in a `match` on a number: what it is told of the number, and one computed test over the numbers that may reach
+-- it, give its answer.
 use Prim.Native.Nat.{ℕ, _-_, _≤_, _<_}
 use mathlib.Core.Path.{_≡_, refl, sym}
 use mathlib.Core.Bool.{Bool, true, false}
@@ -16,7 +17,8 @@ use Rattle.layout.proofs.Tab.{tab-all}
 unfoldable pub seen : {A : Type 0} → (ℕ → A) → A → List (List ℕ) → ℕ → A
 seen f v kss x = if some (isIn x) kss then v else f x
 
-module _ {A : Type 0} (f : ℕ → A) (v : A) (kss : List (List ℕ)) (lo hi : ℕ) (all : tab (seen f v kss) lo (hi - lo) ≡ replicate (hi - lo) v) where
+module _ {A : Type 0} (f : ℕ → A) (v : A) (kss : List (List ℕ)) (lo hi : ℕ)
+    (all : tab (seen f v kss) lo (hi - lo) ≡ replicate (hi - lo) v) where
   -- a number from `lo` to before `hi`
   pub within : {x : ℕ} → lo ≤ x → x < hi → some (isIn x) kss ≡ false → v ≡ f x
   unfolding seen

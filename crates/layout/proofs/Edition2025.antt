@@ -9,8 +9,8 @@ use Rattle.dirf.specs.Kinds.{DECPF}
 use Rattle.dirf.specs.Below.{Children, underDECPF, underDECPJ, below2025}
 use Rattle.dirf.specs.Edition.{edition2025, edition-opens}
 use Rattle.dirf.proofs.Bools.{if-cases}
-use Rattle.layout.specs.Tables.{nameIn, namesIn, nameTable, slotOf, concat, rowsIn, countIn, rowIn, byteIn, rowOf, formatOf, fillOf}
-use Rattle.layout.specs.Tables.{needOf, holdsOf, recordOf, rowBytesOf, formatByte, fillByte, needByte, holdsByte}
+use Rattle.layout.specs.Tables.{nameIn, namesIn, baseIn, nameTable, slotOf, concat, rowsIn, countIn, rowIn, byteIn, rowOf}
+use Rattle.layout.specs.Tables.{formatOf, fillOf, needOf, holdsOf, recordOf, rowBytesOf, formatByte, fillByte, needByte, holdsByte}
 use Rattle.layout.specs.LaidOut.{LaidOut, isKind}
 
 -- a test of the lists below holds if it holds of each declarant's
@@ -19,7 +19,7 @@ unfolding below2025
 each test f j d = if-cases (λ (t : Children). every test t ≡ true) (eqb d DECPF) (λ _. f) (λ _. j)
 
 pub laidOut2025 : LaidOut edition2025
-unfolding nameIn namesIn nameTable slotOf concat rowsIn countIn rowIn byteIn rowOf formatOf fillOf needOf holdsOf
+unfolding nameIn namesIn baseIn nameTable slotOf concat rowsIn countIn rowIn byteIn rowOf formatOf fillOf needOf holdsOf
     recordOf rowBytesOf formatByte fillByte needByte holdsByte bytes-opens edition-opens
 laidOut2025 =
     record {
@@ -29,6 +29,7 @@ laidOut2025 =
       held = each (λ r. every isKind (r .1)) refl refl;
       names = refl;
       name = refl;
+      base = refl;
       widths = refl;
       records = λ after. refl;
     }

@@ -12,15 +12,15 @@ use borrow.Author.Tests.{ltb-true, lt-ltb, le-ltb}
 use Rattle.dirf.specs.Bytes.{Text, every, some, same, isIn, lookup}
 use Rattle.dirf.specs.Row.{Row}
 use Rattle.dirf.specs.Below.{Children}
-use Rattle.dirf.specs.Edition.{Edition, kindIn, kindOf, nameOf, rowsOf}
+use Rattle.dirf.specs.Edition.{Edition, kindIn, kindOf, nameOf, rowsOf, isBase}
 use Rattle.dirf.specs.Tree.{mayHold}
 use Rattle.dirf.proofs.Bools.{if-cases}
 use Rattle.fields.specs.Places.{mostFields}
-use Rattle.layout.specs.Tables.{kinds, nameIn, namesIn, nameTable, rowBytes, recordBytes, rowIn, rowsIn, countIn, byteIn, rowTable}
-use Rattle.layout.specs.Tables.{recordOf, yes, yesIn, holdsIn, belowTable}
+use Rattle.layout.specs.Tables.{kinds, nameIn, namesIn, baseIn, nameTable, rowBytes, recordBytes, rowIn, rowsIn, countIn, byteIn}
+use Rattle.layout.specs.Tables.{rowTable, recordOf, yes, yesIn, holdsIn, belowTable}
 use Rattle.layout.specs.LaidOut.{Say, SayBelow, isKind, LaidOut}
 use Rattle.layout.specs.Codes.{rowCodes, rowSaid}
-use Rattle.layout.proofs.Past.{by-kind, every-first, every-rest, isIn-past, lookup-past, rows-past}
+use Rattle.layout.proofs.Past.{by-kind, every-first, every-rest, some-past, isIn-past, lookup-past, rows-past}
 use Rattle.layout.proofs.Tab.{tab-at, tab-length, tab-same, tab-each, tab2-at, concat-drop}
 
 -- any table
@@ -119,12 +119,17 @@ module _ (e : Edition) (l : LaidOut e) where
   unfolding nameIn nameOf
   no-name t k h = rw (le-ltb k kinds h, lookup-past k h [] (e .names) (l .named-kinds))
 
+  no-base : (t : List ℕ) (k : ℕ) → kinds ≤ k → baseIn t k ≡ isBase e k
+  unfolding nameIn baseIn isBase
+  no-base t k h = rw (le-ltb k kinds h, some-past k h (λ n. n .0) (e .names) (l .named-kinds))
+
   pub says : Say e (nameTable e) (rowTable e)
   unfolding kindOf
   says =
       record {
         kind = λ s. ap (λ ns. kindIn ns s) (l .names);
         name = λ k. by-kind k (tab-each (nameIn (nameTable e)) (nameOf e) kinds (l .name) k) (no-name (nameTable e) k);
+        base = λ k. by-kind k (tab-each (baseIn (nameTable e)) (isBase e) kinds (l .base) k) (no-base (nameTable e) k);
         fields = λ k. by-kind k (rows-there k) (no-rows (rowTable e) k);
       }
 

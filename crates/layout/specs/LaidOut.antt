@@ -6,14 +6,15 @@ use mathlib.Core.List.{List, _++_}
 use lib.Dec.{ltb}
 use lib.ListN.{length, replicate}
 use Rattle.dirf.specs.Bytes.{Text, every}
-use Rattle.dirf.specs.Edition.{Edition, kindIn, kindOf, nameOf, rowsOf}
+use Rattle.dirf.specs.Edition.{Edition, kindIn, kindOf, nameOf, rowsOf, isBase}
 use Rattle.dirf.specs.Tree.{mayHold}
-use Rattle.layout.specs.Tables.{tab, kinds, nameIn, namesIn, nameTable, recordBytes, recordOf, rowsIn, holdsIn}
+use Rattle.layout.specs.Tables.{tab, kinds, nameIn, namesIn, baseIn, nameTable, recordBytes, recordOf, rowsIn, holdsIn}
 
 -- lent tables say an edition: whoever reads them reads what the edition has
 pub record Say (e : Edition) (names rows : List ℕ) : Type 0 where
   pub kind : (s : Text) → kindIn (namesIn names) s ≡ kindOf e s
   pub name : (k : ℕ) → nameIn names k ≡ nameOf e k
+  pub base : (k : ℕ) → baseIn names k ≡ isBase e k
   pub fields : (k : ℕ) → rowsIn rows k ≡ rowsOf e k
 
 -- and what may stand below what under a declarant of kind d
@@ -33,5 +34,6 @@ pub record LaidOut (e : Edition) : Type 0 where
   -- identifiers and rows fit their places, and read back
   pub names : namesIn (nameTable e) ≡ e .names
   pub name : tab (nameIn (nameTable e)) 0 kinds ≡ tab (nameOf e) 0 kinds
+  pub base : tab (baseIn (nameTable e)) 0 kinds ≡ tab (isBase e) 0 kinds
   pub widths : tab (λ k. length (recordOf (rowsOf e k))) 0 kinds ≡ replicate kinds recordBytes
   pub records : (after : List ℕ) → tab (λ k. rowsIn (recordOf (rowsOf e k) ++ after) 0) 0 kinds ≡ tab (rowsOf e) 0 kinds

@@ -1,11 +1,11 @@
 -- The tables as they are lent: what they hold, and what they say of whoever reads them.
 use Prim.Native.Nat.{ℕ, zero, suc, _+_, _*_, _-_, min}
-use mathlib.Core.Bool.{Bool, true, false, _&&_}
+use mathlib.Core.Bool.{Bool, true, false, _&&_, not}
 use mathlib.Core.List.{List, [], _∷_, _++_, map}
 use lib.Dec.{eqb, ltb}
 use lib.ListN.{length, getD, take, drop, replicate}
 use Rattle.dirf.specs.Bytes.{if_then_else_, Text, bytes, isIn, lookup}
-use Rattle.dirf.specs.Kinds.{IDREC}
+use Rattle.dirf.specs.Kinds.{IDREC, isLater}
 use Rattle.dirf.specs.Row.{Row, row, Format, C, N, D, Fill, fixed, variable, Need, obligatory, optional}
 use Rattle.dirf.specs.Row.{Holds, identifier, amount, months, ddd, telephone, cpf, cnpj, cpfOrCnpj, plain, oneOf, sOrN}
 use Rattle.dirf.specs.Edition.{Edition, kindIn, nameOf, rowsOf}
@@ -36,6 +36,10 @@ nameStart k = if ltb k kinds then k * slot + 1 else 0
 -- the kinds and their identifiers, as a table has them
 unfoldable pub namesIn : List ℕ → List (ℕ × Text)
 namesIn t = tab (λ k. (k, nameIn t k)) 1 (kinds - 1)
+
+-- a kind that a table names and that is not left for later
+unfoldable pub baseIn : List ℕ → ℕ → Bool
+baseIn t k = ltb 0 (length (nameIn t k)) && not (isLater k)
 
 -- a record's line in the table of field rows: the number of its fields, then fifteen rows of five bytes
 abbrev pub rowBytes : ℕ

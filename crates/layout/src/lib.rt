@@ -5,9 +5,9 @@ ghost use Prim.Native.Nat.{_+_};
 ghost use denote.Ref.{ptr};
 ghost use Rattle.dirf.specs.Kinds.{isLater, isValue, opensNothing, standsOnce};
 ghost use Rattle.dirf.specs.Kinds.{DECPF, DECPJ};
-ghost use Rattle.dirf.specs.Edition.{edition2025, kindIn, isBase};
+ghost use Rattle.dirf.specs.Edition.{edition2025, kindIn};
 ghost use Rattle.dirf.specs.Tree.{blockOf};
-ghost use Rattle.layout.specs.Tables.{nameIn, nameStart, namesIn, countIn, yesIn, holdsIn, nameTable, rowTable, belowTable};
+ghost use Rattle.layout.specs.Tables.{nameIn, nameStart, namesIn, baseIn, countIn, yesIn, holdsIn, nameTable, rowTable, belowTable};
 ghost use Rattle.layout.specs.Codes.{rowCodes};
 
 // The kinds are numbered from 1, and 0 is none.
@@ -388,7 +388,8 @@ pub fn below_table(declarant: u32) -> [[u8; KINDS]; KINDS]
 
 // The identifier of a kind, as a part of the lent table; empty for what is no kind.
 pub fn name(names: &[u8; NAME_BYTES], k: u32) -> &[u8]
-    ensures { λ r. ⌜ (now r ≡ nameIn (now (names .entry)) k) × ((ptr r .0 ≡ ptr (names .entry) .0) × (ptr r .1 ≡ ptr (names .entry) .1 + nameStart k)) ⌝ }
+    ensures { λ r. ⌜ (now r ≡ nameIn (now (names .entry)) k)
+        × ((ptr r .0 ≡ ptr (names .entry) .0) × (ptr r .1 ≡ ptr (names .entry) .1 + nameStart k)) ⌝ }
 {
     let all = &names[..];
     if KINDS <= k as usize {
@@ -529,12 +530,12 @@ pub fn stands_once(k: u32) -> bool
     is_value(k)
 }
 
-// A kind that is in the base.
-pub fn is_base(k: u32) -> bool
-    ensures { λ r. ⌜ r ≡ isBase edition2025 k ⌝ }
+// A kind that is in the base: the table names it, and it is not left for later.
+pub fn is_base(names: &[u8; NAME_BYTES], k: u32) -> bool
+    ensures { λ r. ⌜ r ≡ baseIn (now (names .entry)) k ⌝ }
 {
-    match k {
-        1..=19 | 21..=23 | 25..=27 | 30..=44 | 48..=62 | 73 => true,
-        _ => false,
+    if 0 < name(names, k).len() {
+        return !is_later(k);
     }
+    false
 }

@@ -41,13 +41,16 @@ ruled bytes size zero date value =
 
 module _ (name : Text) (r : Row) where
   pub empty-number : (s : Text) → length s ≡ 0 → numberOf (askField 0 fieldOrder name r s) ≡ (if isObligatory (r .need) then 13 else 0)
-  unfolding askField fieldOrder obligatoryFieldEmpty byteOfTheWrongKind wrongSize zeroInFront noSuchDate notAValidValue filled isEmpty every beginsWith numberOf
+  unfolding askField fieldOrder obligatoryFieldEmpty byteOfTheWrongKind wrongSize zeroInFront noSuchDate notAValidValue filled
+      isEmpty every beginsWith numberOf
   empty-number [] e = simp (and-false, and-true, step)
   empty-number (b ∷ s) e = absurd (omega arith)
 
   pub filled-number : (s : Text) → (length s ≡ 0 → ⊥)
-      → numberOf (askField 0 fieldOrder name r s) ≡ ruled (every (rightByte (r .format)) s) (rightSize r s) (zeroFirst r s) (noDate r s) (valid name (r .holds) s)
-  unfolding askField fieldOrder obligatoryFieldEmpty byteOfTheWrongKind wrongSize zeroInFront noSuchDate notAValidValue filled isEmpty numberOf ruled
+      → numberOf (askField 0 fieldOrder name r s)
+      ≡ ruled (every (rightByte (r .format)) s) (rightSize r s) (zeroFirst r s) (noDate r s) (valid name (r .holds) s)
+  unfolding askField fieldOrder obligatoryFieldEmpty byteOfTheWrongKind wrongSize zeroInFront noSuchDate notAValidValue filled
+      isEmpty numberOf ruled
   filled-number [] h = absurd (h refl)
   filled-number (b ∷ s) h = simp (and-false, step)
 

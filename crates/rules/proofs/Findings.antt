@@ -1,6 +1,7 @@
 -- What is found in a record's fields: what a finding is made of, field by field, and the conditions of DECPF.
-use Prim.Native.Nat.{ℕ, suc, _+_, _*_, _≤_, _<_}
+use Prim.Native.Nat.{ℕ, suc, _+_, _≤_, _<_}
 use mathlib.Core.Path.{_≡_, refl, sym, _∙_}
+use mathlib.Core.Logic.{_≢_}
 use mathlib.Core.Bool.{Bool, true, false, _&&_, not, and-assoc}
 use mathlib.Core.List.{List, [], _∷_}
 use native.Mathlib.Omega.{arith}
@@ -19,7 +20,8 @@ use Rattle.dirf.specs.Conditions.{special, eventDateMissing, eventTypeMissing, 
 use Rattle.dirf.specs.Conditions.{conditionOrder, conditions-opens}
 use Rattle.dirf.specs.Rules.{Found, keeps, breaks, given, orElse, askField, askFields, askConditions}
 use Rattle.dirf.proofs.Bools.{if-cases}
-use Rattle.layout.specs.Tables.{countIn, rowsIn}
+use Rattle.fields.specs.Places.{mostFields}
+use Rattle.layout.specs.Tables.{kinds, countIn, rowsIn}
 use Rattle.layout.specs.Codes.{rowCodes, rowSaid}
 use Rattle.layout.proofs.Laws.{row-said, rows-length, rows-at}
 use Rattle.rules.specs.declared.Finding.{Finding}
@@ -36,12 +38,12 @@ unfolding given orElse placed
 given-placed n f true x y e = refl
 given-placed n f false x y e = e
 
-pub ask-placed : (f : ℕ) (xs : List FieldRule) (name : Text) (r : Row) (s : Text) → askField f xs name r s ≡ placed f (askField 0 xs name r s)
+ask-placed : (f : ℕ) (xs : List FieldRule) (name : Text) (r : Row) (s : Text) → askField f xs name r s ≡ placed f (askField 0 xs name r s)
 unfolding askField placed
 ask-placed f [] name r s = refl
-ask-placed f (x ∷ xs) name r s = given-placed (x .0) f (x .1 name r s) (askField 0 xs name r s) (askField f xs name r s) (ask-placed f xs name r s)
+ask-placed f (x ∷ xs) name r s = given-placed (x .0) f (x .1 name r s) _ _ (ask-placed f xs name r s)
 
-pub placed-break : (f : ℕ) (x : Found) {n : ℕ} → n ≡ numberOf x → (n ≡ 0 → ⊥) → placed f x ≡ breaks n f
+placed-break : (f : ℕ) (x : Found) {n : ℕ} → n ≡ numberOf x → (n ≡ 0 → ⊥) → placed f x ≡ breaks n f
 unfolding placed numberOf
 placed-break f keeps e h = absurd (h e)
 placed-break f (breaks n g) e h = rw e
@@ -49,9 +51,10 @@ placed-break f (breaks n g) e h = rw e
 module _ (xs : List FieldRule) (name : Text) where
   -- field by field, from field i on
   module _ (rows : List Row) (cells : List Text) (i : ℕ) where
-    pub fields-on : (d : Row) → i < length rows → i < length cells
-        → askFields (i + 1) xs name (drop i rows) (drop i cells) ≡
-        orElse (askField (i + 1) xs name (getD rows i d) (getD cells i [])) (askFields (i + 1 + 1) xs name (drop (i + 1) rows) (drop (i + 1) cells))
+    fields-on : (d : Row) → i < length rows → i < length cells
+        → askFields (i + 1) xs name (drop i rows) (drop i cells)
+        ≡ orElse (askField (i + 1) xs name (getD rows i d) (getD cells i []))
+        (askFields (i + 1 + 1) xs name (drop (i + 1) rows) (drop (i + 1) cells))
     unfolding askFields
     fields-on d h k = rw (add-one i, add-one (suc i), drop-cons rows i d, drop-cons cells i [], askFields)
 
@@ -63,31 +66,36 @@ module _ (xs : List FieldRule) (name : Text) where
         none [] = refl
         none (r ∷ rs) = refl
 
-pub count-most : (t : List ℕ) (k : ℕ) → countIn t k ≤ 15
+pub count-most : (t : List ℕ) (k : ℕ) → countIn t k ≤ mostFields
 unfolding countIn
-count-most t k = if-cases (λ n. n ≤ 15) (ltb k 74) (λ e. min-le-left 15 (getD t (k * 76) 0)) (λ e. omega arith)
+count-most t k = if-cases (λ n. n ≤ mostFields) (ltb k kinds) (λ _. min-le-left mostFields _) (λ _. omega arith)
 
--- the rule of field i + 1, as it is asked of the codes of its row
+-- what is found from field i + 1 on, by the rows of a table
+abbrev pub fieldsFrom : List ℕ → ℕ → Text → List Text → ℕ → Found
+fieldsFrom t k name cells i = askFields (i + 1) fieldOrder name (drop i (rowsIn t k)) (drop i cells)
+
+-- n is asked of field i + 1: a number is what is found, and 0 leaves it to the next field
+abbrev pub Turned : List ℕ → ℕ → Text → List Text → ℕ → ℕ → Type 0
+Turned t k name cells i n =
+    (n ≢ 0 → fieldsFrom t k name cells i ≡ breaks n (i + 1)) × (n ≡ 0 → fieldsFrom t k name cells i ≡ fieldsFrom t k name cells (i + 1))
+
+-- the codes of its row are asked
 module _ (t : List ℕ) (k : ℕ) (name : Text) (cells : List Text) (i : ℕ) (h : i < countIn t k) (l : i < length cells) where
   abbrev row : Row
   row = rowSaid (rowCodes t k i)
 
-  abbrev rest : ℕ → Found
-  rest j = askFields (j + 1) fieldOrder name (drop j (rowsIn t k)) (drop j cells)
-
-  here : rest i ≡ orElse (placed (i + 1) (askField 0 fieldOrder name row (getD cells i []))) (rest (i + 1))
+  here : fieldsFrom t k name cells i
+      ≡ orElse (placed (i + 1) (askField 0 fieldOrder name row (getD cells i []))) (fieldsFrom t k name cells (i + 1))
   here =
       fields-on fieldOrder name (rowsIn t k) cells i row (omega (arith, rows-length t k)) l
       ∙ rw (rows-at t k i row h, ← row-said t k i h, ask-placed (i + 1) fieldOrder name row (getD cells i []))
 
-  module _ {n : ℕ} (e : n ≡ numberOf (askField 0 fieldOrder name row (getD cells i []))) where
-    pub field-breaks : (n ≡ 0 → ⊥) → rest i ≡ breaks n (i + 1)
-    unfolding orElse
-    field-breaks z = here ∙ rw (placed-break (i + 1) (askField 0 fieldOrder name row (getD cells i [])) e z)
-
-    pub field-keeps : n ≡ 0 → rest i ≡ rest (i + 1)
-    unfolding orElse placed
-    field-keeps z = here ∙ rw (nothing name row (getD cells i []) (sym e ∙ z))
+  pub turned : {n : ℕ} → n ≡ numberOf (askField 0 fieldOrder name row (getD cells i [])) → Turned t k name cells i n
+  unfolding orElse placed
+  turned e = (
+    λ z. here ∙ rw (placed-break (i + 1) (askField 0 fieldOrder name row (getD cells i [])) e z),
+    λ z. here ∙ rw (nothing name row (getD cells i []) (sym e ∙ z)),
+  )
 
 -- 19 is asked of DECPF alone
 pub no-conditions : (k : ℕ) (cells : List Text) → (k ≡ DECPF → ⊥) → askConditions 19 conditionOrder k cells ≡ keeps
@@ -128,7 +136,7 @@ five true false false false true = refl
 five true false false false false = refl
 
 pub condition-field : (cells : List Text)
-    → conditionField cells ≡ conditioned (special cells) (isEmpty (field 9 cells)) (isEmpty (field 10 cells)) (deathUnstated cells) (isEmpty (field 13 cells))
+    → conditionField cells
+    ≡ conditioned (special cells) (isEmpty (field 9 cells)) (isEmpty (field 10 cells)) (deathUnstated cells) (isEmpty (field 13 cells))
 unfolding askConditions conditions-opens conditionField deathUnstated four
-condition-field cells =
-    rw and-assoc (five (special cells) (isEmpty (field 9 cells)) (isEmpty (field 10 cells)) (deathUnstated cells) (isEmpty (field 13 cells)))
+condition-field cells = rw and-assoc (five (special cells) _ _ (deathUnstated cells) _)

@@ -8,9 +8,10 @@ use Rattle.dirf.specs.Bytes.{Text, bytes, every, isIn, same, lookup}
 use Rattle.dirf.specs.Kinds.{DECPF}
 use Rattle.dirf.specs.Lines.{field}
 use Rattle.dirf.specs.Row.{Row as FieldRow}
-use Rattle.dirf.specs.Fields.{rightByte, fieldOrder}
+use Rattle.dirf.specs.Fields.{rightByte}
 use Rattle.dirf.specs.Conditions.{conditionOrder}
-use Rattle.dirf.specs.Rules.{Found, keeps, breaks, orElse, askFields, askConditions}
+use Rattle.dirf.specs.Rules.{Found, keeps, breaks, askConditions, first}
+use Rattle.dirf.specs.Order.{contents}
 use Rattle.dirf.specs.Amounts.{Reading}
 use Rattle.layout.specs.Tables.{formatOf}
 use Rattle.layout.specs.declared.Row.{Row}
@@ -36,7 +37,7 @@ findingOf (breaks number field) = record { number = number; field = field }
 
 -- 13 to 18 field by field, then 19: of a kind, its identifier, its rows and the fields' contents
 unfoldable pub contentsFound : ℕ → Text → List FieldRow → List Text → Found
-contentsFound k name rows cells = orElse (askFields 1 fieldOrder name rows cells) (askConditions 19 conditionOrder k cells)
+contentsFound k name rows cells = first contents (record { kind = k; name = name; rows = rows; cells = cells })
 
 -- the only byte of a text, 0 where it has none or more
 unfoldable pub onlyByte : Text → ℕ

@@ -388,7 +388,7 @@ fn cell(bytes: &[u8], p: Places, i: usize) -> &[u8]
     if p.count <= i {
         return &bytes[0..0];
     }
-    if 15 <= i {
+    if fields::MOST_FIELDS <= i {
         return &bytes[0..0];
     }
     let start = p.starts[i];
@@ -464,7 +464,13 @@ fn conditions_found(bytes: &[u8], p: Places, k: u32) -> Finding
 }
 
 // 13 to 18 field by field, lowest field first, then 19.
-pub fn contents_found(bytes: &[u8], p: Places, name: &[u8], rows: &[u8; 5624], k: u32) -> Finding
+pub fn contents_found(
+    bytes: &[u8],
+    p: Places,
+    name: &[u8],
+    rows: &[u8; layout::ROW_BYTES],
+    k: u32,
+) -> Finding
     ensures { λ r. ⌜ r ≡ findingOf (contentsFound k (now (name .entry)) (rowsIn (now (rows .entry)) k) (cellsAt (now (bytes .entry)) p)) ⌝ }
 {
     let n = layout::field_count(rows, k);

@@ -28,7 +28,8 @@ digit c =
 
 -- the value of the whole, with this digit
 more : (c : tie.After-wide Inv-loop μ-loop) → let l = c .before .before .before in
-    valueOf (l .before .before .args .s .now) ≡ valueAfter (l .loop .n * 10 + (c .wide .result - 48)) (drop (l .loop .i + 1) (l .before .before .args .s .now))
+    let s = l .before .before .args .s .now in
+    valueOf s ≡ valueAfter (l .loop .n * 10 + (c .wide .result - 48)) (drop (l .loop .i + 1) s)
 more c =
     let l = c .before .before .before in
     l .loop .inv .1 .1 ∙ value-on (l .before .before .args .s .now) (l .loop .i) (l .loop .n) (omega arith) ∙ rw (c .wide .ensures)

@@ -6,12 +6,12 @@ use borrow.Author.Needs.{needs}
 use lib.ListN.{getD, List·getD-eq-default}
 use Rattle.dirf.specs.Bytes.{Text}
 use Rattle.fields.specs.declared.Places.{Places}
-use Rattle.fields.specs.Places.{cellAt, cellsAt}
+use Rattle.fields.specs.Places.{mostFields, cellAt, cellsAt}
 use Rattle.fields.proofs.PlaceLaws.{cell-at, cells-length}
 use Rattle.rules.proofs.cell.Statement.{statement}
 use Rattle.rules.proofs.cell.Tie as tie
 
-past : (s : Text) (p : Places) (i : ℕ) → min 15 (p .count) ≤ i → [] ≡ getD (cellsAt s p) i []
+past : (s : Text) (p : Places) (i : ℕ) → min mostFields (p .count) ≤ i → [] ≡ getD (cellsAt s p) i []
 past s p i h = sym (List·getD-eq-default (cellsAt s p) [] (omega (arith, cells-length s p)))
 
 pub cell-spec : {M : Type 1} → statement M

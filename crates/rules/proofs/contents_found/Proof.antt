@@ -1,25 +1,24 @@
-use Prim.Native.Nat.{ℕ, _+_, _-_, _≤_, _<_, min}
+use Prim.Native.Nat.{ℕ, _-_, _≤_, _<_, min}
 use mathlib.Core.Path.{_≡_, refl, sym, _∙_}
 use mathlib.Core.List.{List, []}
 use native.Mathlib.Omega.{arith}
 use borrow.Author.Needs.{needs}
-use lib.ListN.{length, getD, drop, drop-of-length-le}
+use lib.ListN.{length, drop-of-length-le}
 use Rattle.dirf.specs.Bytes.{Text}
 use Rattle.dirf.specs.Fields.{fieldOrder}
-use Rattle.dirf.specs.Rules.{orElse, askField, askFields}
-use Rattle.layout.specs.Tables.{countIn, rowsIn}
-use Rattle.layout.specs.Codes.{rowCodes, rowSaid}
+use Rattle.dirf.specs.Rules.{orElse, askFields}
+use Rattle.layout.specs.Tables.{rowsIn}
 use Rattle.layout.proofs.Laws.{rows-length}
-use Rattle.fields.specs.Places.{cellAt, cellsAt}
+use Rattle.fields.specs.Places.{mostFields, cellAt, cellsAt}
 use Rattle.fields.proofs.PlaceLaws.{cell-at, cells-length}
-use Rattle.rules.specs.Findings.{numberOf, findingOf, contentsFound}
-use Rattle.rules.proofs.Findings.{fields-end, count-most, field-breaks, field-keeps}
+use Rattle.rules.specs.Findings.{findingOf}
+use Rattle.rules.proofs.Findings.{fields-end, count-most, fieldsFrom, Turned, turned}
+use Rattle.rules.proofs.Laws.{in-parts}
 use Rattle.rules.proofs.contents_found.Statement.{statement}
 use Rattle.rules.proofs.contents_found.Tie as tie
 
 abbrev Inv-loop : tie.InvT-loop
-Inv-loop bytes name rows k p n i₀ i =
-    (i ≤ n) × (askFields 1 fieldOrder name (rowsIn rows k) (cellsAt bytes p) ≡ askFields (i + 1) fieldOrder name (drop i (rowsIn rows k)) (drop i (cellsAt bytes p)))
+Inv-loop bytes name rows k p n i₀ i = (i ≤ n) × (fieldsFrom rows k name (cellsAt bytes p) 0 ≡ fieldsFrom rows k name (cellsAt bytes p) i)
 
 abbrev μ-loop : tie.MeasureT-loop
 μ-loop bytes name rows k p n i₀ i = n - i
@@ -37,28 +36,23 @@ abbrev cells : tie.At-loop Inv-loop μ-loop → List Text
 cells l = cellsAt (start l .args .bytes .now) (start l .args .t2)
 
 -- no record has more than fifteen rows, as there are places for no more cells
-few : (l : tie.At-loop Inv-loop μ-loop) → l .before .field-count .result ≤ 15
+few : (l : tie.At-loop Inv-loop μ-loop) → l .before .field-count .result ≤ mostFields
 few l = rw (l .before .field-count .ensures) (count-most (rows l) (start l .args .k))
 
--- field i has a row and a cell
-there : (c : tie.After-field-rule Inv-loop μ-loop) → let l = c .before .before .before .before .before .before .before in
-    (l .loop .i < countIn (rows l) (start l .args .k)) × (l .loop .i < length (cells l))
-there c =
-    let l = c .before .before .before .before .before .before .before in
-    (omega (arith, l .before .field-count .ensures), omega (arith, few l, cells-length (start l .args .bytes .now) (start l .args .t2)))
-
--- the number that is asked of a field is that of its row and its cell
-asked : (c : tie.After-field-rule Inv-loop μ-loop) → let l = c .before .before .before .before .before .before .before in
-    c .field-rule .result ≡ numberOf (askField 0 fieldOrder (name l) (rowSaid (rowCodes (rows l) (start l .args .k) (l .loop .i))) (getD (cells l) (l .loop .i) []))
+-- field i has a row and a cell, and they are asked
+turn : (c : tie.After-field-rule Inv-loop μ-loop) → let l = c .before .before .before .before .before .before .before in
+    Turned (rows l) (start l .args .k) (name l) (cells l) (l .loop .i) (c .field-rule .result)
 unfolding cellAt
-asked c =
+turn c =
     let l = c .before .before .before .before .before .before .before in
-    let h : l .loop .i < min 15 (start l .args .t2 .count) = omega (arith, few l) in
-    let p = c .before .before .part .ensures .0 ∙ sym (cell-at (start l .args .bytes .now) (start l .args .t2) (l .loop .i) [] h) in
-    c .field-rule .ensures ∙ rw (c .before .row-at .ensures, p)
+    let a = start l .args in
+    let h : l .loop .i < min mostFields (a .t2 .count) = omega (arith, few l) in
+    let p = c .before .before .part .ensures .0 ∙ sym (cell-at (a .bytes .now) (a .t2) (l .loop .i) [] h) in
+    turned (rows l) (a .k) (name l) (cells l) (l .loop .i) (omega (arith, l .before .field-count .ensures))
+    (omega (arith, cells-length (a .bytes .now) (a .t2))) (c .field-rule .ensures ∙ rw (c .before .row-at .ensures, p))
 
 pub contents-found-spec : {M : Type 1} → statement M
-unfolding orElse askFields findingOf contentsFound
+unfolding orElse askFields findingOf
 contents-found-spec =
     tie.close
     (tie.spec
@@ -70,7 +64,8 @@ contents-found-spec =
     (λ c.
     let l = c .before .before .before in
     let h : length (cells l) ≤ l .loop .i = omega (arith, few l, cells-length (start l .args .bytes .now) (start l .args .t2)) in
-    rw (l .loop .inv .1 ∙ fields-end fieldOrder (name l) (rowsIn (rows l) (start l .args .k)) (cells l) (l .loop .i) h) (c .conditions-found .ensures))
+    let e = l .loop .inv .1 ∙ fields-end fieldOrder (name l) (rowsIn (rows l) (start l .args .k)) (cells l) (l .loop .i) h in
+    rw (in-parts, e) (c .conditions-found .ensures))
     (λ c. omega (arith, few (c .before .before)))
     (λ c. omega (arith, few (c .before .before)))
     (λ c. omega (arith, few (c .before .before .before)))
@@ -82,17 +77,15 @@ contents-found-spec =
     (λ c. omega (arith, few (c .before .before .before .before .before .before .before .before)))
     (λ c.
     let l = c .before .before .before .before .before .before .before .before in
-    let h = there (c .before) in
-    rw (l .loop .inv .1 ∙ field-breaks (rows l) (start l .args .k) (name l) (cells l) (l .loop .i) (h .0) (h .1) (asked (c .before)) (c .if2 .taken)))
+    rw (in-parts, l .loop .inv .1 ∙ turn (c .before) .0 (c .if2 .taken)))
     (λ c. omega arith)
     (λ c. omega arith)
     (λ c.
     let l = c .before .before .before .before .before .before .before .before in
-    let h = there (c .before) in
-    (omega arith, l .loop .inv .1 ∙ field-keeps (rows l) (start l .args .k) (name l) (cells l) (l .loop .i) (h .0) (h .1) (asked (c .before)) (c .if2 .left)))
+    (omega arith, l .loop .inv .1 ∙ turn (c .before) .1 (c .if2 .left)))
     (λ c κs. search needs)
     (λ c.
     let l = c .before .before in
     let e = rows-length (rows l) (start l .args .k) ∙ sym (l .before .field-count .ensures) in
     let h : length (rowsIn (rows l) (start l .args .k)) ≤ l .loop .i = omega (arith, e) in
-    rw (l .loop .inv .1, drop-of-length-le (rowsIn (rows l) (start l .args .k)) h) (c .conditions-found2 .ensures)))
+    rw (in-parts, l .loop .inv .1, drop-of-length-le (rowsIn (rows l) (start l .args .k)) h) (c .conditions-found2 .ensures)))

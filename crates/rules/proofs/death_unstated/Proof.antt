@@ -17,4 +17,6 @@ death-unstated-spec =
     (λ c. rw (sym (c .before .cell-is .ensures) ∙ not-true _ (c .if1 .taken)))
     (λ c. search needs)
     (λ c κs. search needs)
-    (λ c. rw (sym (c .before .before .before .cell-is .ensures) ∙ not-false _ (c .before .before .if1 .left)) (ap not (c .cell-is2 .ensures))))
+    (λ c.
+    let s = c .before .before in
+    rw (sym (s .before .cell-is .ensures) ∙ not-false _ (s .if1 .left)) (ap not (c .cell-is2 .ensures))))

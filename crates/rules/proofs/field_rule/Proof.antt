@@ -23,6 +23,9 @@ field-rule-spec =
     (λ c κs. search needs)
     (λ c.
     let a = c .before .before .before .before .before .args in
-    rw (filled-number (a .name .now) (rowSaid (a .row)) (a .s .now) (c .before .before .if1 .left), sym (c .before .right-bytes .ensures) ∙ not-true _ (c .if3 .taken)))
-    (λ c κs. record { filled = omega (arith, c .before .before .if1 .left); bytes = sym (c .before .right-bytes .ensures) ∙ not-false _ (c .if3 .left) })
+    let f = filled-number (a .name .now) (rowSaid (a .row)) (a .s .now) (c .before .before .if1 .left) in
+    rw (f, sym (c .before .right-bytes .ensures) ∙ not-true _ (c .if3 .taken)))
+    (λ c κs.
+    let bytes = sym (c .before .right-bytes .ensures) ∙ not-false _ (c .if3 .left) in
+    record { filled = omega (arith, c .before .before .if1 .left); bytes = bytes })
     (λ c. c .filled-rule .ensures))

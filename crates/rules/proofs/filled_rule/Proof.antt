@@ -15,9 +15,12 @@ use Rattle.rules.proofs.filled_rule.Tie as tie
 number : (t : tie.Start) → let a = t .args in
     let r = rowSaid (a .row) in
     let s = a .s .now in
-    numberOf (askField 0 fieldOrder (a .name .now) r s) ≡ ruled true (rightSize r s) (zeroFirst r s) (noDate r s) (valid (a .name .now) (r .holds) s)
+    numberOf (askField 0 fieldOrder (a .name .now) r s)
+    ≡ ruled true (rightSize r s) (zeroFirst r s) (noDate r s) (valid (a .name .now) (r .holds) s)
 unfolding rowOf rowSaid
-number t = filled-number (t .args .name .now) (rowSaid (t .args .row)) (t .args .s .now) (λ e. omega (arith, t .pre .filled)) ∙ rw (t .pre .bytes)
+number t =
+    filled-number (t .args .name .now) (rowSaid (t .args .row)) (t .args .s .now) (λ e. omega (arith, t .pre .filled))
+    ∙ rw (t .pre .bytes)
 
 -- what is known after each test
 abbrev first : tie.Else1 → tie.Start

@@ -21,8 +21,8 @@ unfolding partOf
 readable s start len e h = (every-part isDigit s start len e, rw length-take (le-trans (min-le-left _ _) h))
 
 -- all that is left after the month is the day
-by-parts : (s : Text) {y m d : ℕ} → y ≡ valueOf (partOf s 0 4) → m ≡ valueOf (partOf s 4 2) → d ≡ min (10 ^ 18) (valueOf (partOf s 6 (length s)))
-    → isDay y m d ≡ isDate s
+by-parts : (s : Text) {y m d : ℕ} → y ≡ valueOf (partOf s 0 4) → m ≡ valueOf (partOf s 4 2)
+    → d ≡ min (10 ^ 18) (valueOf (partOf s 6 (length s))) → isDay y m d ≡ isDate s
 unfolding partOf isDate
 by-parts s e f g = rw (e, f, g, take-all (length s) (drop 6 s) (rw length-drop (omega arith))) (day-capped _ _ _)
 

@@ -14,5 +14,5 @@ is-day-spec =
     (λ c. rw (le-leb 1900 _ (c .before .before .if1 .left), le-leb _ 2099 (c .before .if2 .left), lt-leb 1 _ (c .if3 .taken)))
     (λ c κs. search needs)
     (λ c.
-    let t = c .before .before .before in
-    rw (le-leb 1900 _ (t .if1 .left), le-leb _ 2099 (c .before .before .if2 .left), le-leb 1 _ (c .before .if3 .left), c .days-in .ensures)))
+    let t = c .before .before in
+    rw (le-leb 1900 _ (t .before .if1 .left), le-leb _ 2099 (t .if2 .left), le-leb 1 _ (c .before .if3 .left), c .days-in .ensures)))

@@ -15,7 +15,8 @@ no-such-date-spec =
     tie.close
     (tie.spec
     (λ c.
-    let e : false ≡ dated (formatOf (c .before .before .args .format)) = search (needs, between (λ f. dated (formatOf f)) false ((68 ∷ []) ∷ []) 0 256 refl) in
+    let e : false ≡ dated (formatOf (c .before .before .args .format)) =
+    search (needs, between (λ f. dated (formatOf f)) false ((68 ∷ []) ∷ []) 0 256 refl) in
     rw (← e))
     (λ c κs. rw (c .if1 .left) at (c .before .before .pre))
     (λ c. rw (c .before .if1 .left) (ap not (c .is-date .ensures))))

@@ -36,5 +36,7 @@ read-number-spec =
     (λ c.
     let a = c .before .before .before .before .args in
     refused (askField 0 fieldOrder [] (rowSaid (a .row)) (a .s .now)) (a .s .now) (c .before .field-rule .ensures) (c .if1 .taken))
-    (λ c κs. let t = c .before .before .before .before in kept-digits (rowSaid (t .args .row)) (t .args .s .now) (t .pre .0) (t .pre .2) (kept c))
+    (λ c κs.
+    let t = c .before .before .before .before in
+    kept-digits (rowSaid (t .args .row)) (t .args .s .now) (t .pre .0) (t .pre .2) (kept c))
     (λ c. rw (kept (c .before), c .value .ensures)))

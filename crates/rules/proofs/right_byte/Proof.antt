@@ -24,7 +24,9 @@ right-byte-spec =
     (λ c.
     let b = c .before .before .args .b in
     c .is-digit .ensures ∙ keys (λ f. rightByte (formatOf f) b) (isDigit b) 68 (78 ∷ []) refl (c .before .match .keys1))
-    (λ c. keys (rightByte C) false 10 (13 ∷ 124 ∷ []) refl (c .match2 .keys1) ∙ ap (λ f. rightByte f (c .before .before .args .b)) (text (c .before)))
+    (λ c.
+    keys (rightByte C) false 10 (13 ∷ 124 ∷ []) refl (c .match2 .keys1)
+    ∙ ap (λ f. rightByte f (c .before .before .args .b)) (text (c .before)))
     (λ c.
     let b = c .before .before .args .b in
     let e : true ≡ rightByte C b = search (needs, between (rightByte C) true ((10 ∷ 13 ∷ 124 ∷ []) ∷ []) 0 256 refl) in
