@@ -6,8 +6,8 @@
 
 #include "plain.h"
 #include "test_naive.h"
+#include "test_people.h"
 
-enum { DECPF = 3, DECPJ = 4 };
 #define UNTOUCHED 0xA5A5A5A5u
 
 static unsigned long cases, wrong;
@@ -54,9 +54,18 @@ static void add(text *t, const char *s)
     add_bytes(t, s, strlen(s));
 }
 
+/* A test's own line; {cpf 7} and {cnpj 7} in it stand for the numbers of serial 7. */
 static void add_line(text *t, const char *s)
 {
-    add(t, s);
+    while (*s) {
+        char id[PEOPLE_ID];
+        size_t used = people_stand_in(s, id);
+        if (used > 0)
+            add(t, id);
+        else
+            add_bytes(t, s, 1);
+        s += used ? used : 1;
+    }
     add(t, "\r\n");
 }
 
@@ -134,12 +143,22 @@ static plain_answer run(const uint8_t *bytes, size_t len, size_t room)
     return a;
 }
 
+/* All that a test takes for right is so in its numbers and flags too, else a later rule would speak first. */
+static void is_right(const char *what, const text *t, plain_answer wanted)
+{
+    people_spot spot = people_wrong(t->bytes, t->len, wanted);
+    is_true(spot.line == 0, "check digits and flags", spot.line, spot.field);
+    if (spot.line != 0 && wrong <= 40)
+        printf("   in %s, line and field above\n", what);
+}
+
 static void expect_room(const char *what, const text *t, size_t room, uint32_t number,
                         uint32_t line, uint32_t field)
 {
     plain_answer a = run(t->bytes, t->len, room);
     size_t entries = number ? line - 1 : line;
     int ok = equal(a, (plain_answer){number, line, field, entries});
+    is_right(what, t, (plain_answer){number, line, field, entries});
     is_true(ok, what, number, line);
     if (!ok)
         printf("   got %u %u %u %zu, wanted %u %u %u %zu\n", a.number, a.line,
@@ -156,52 +175,87 @@ static void expect(const char *what, const text *t, uint32_t number, uint32_t li
 
 #define DIRF_LINE "Dirf|2025|2024|N||R6GP3ZA|"
 #define RESPO_LINE "RESPO|11144477735|ANA LIMA|11|33334444||||"
-#define DECPF_LINE "DECPF|11144477735|ANA LIMA|N|N|N|S|N|||N|||||"
-#define DECPJ_LINE "DECPJ|11222333000181|EMPRESA|0|11144477735|N|N|N|N|N|N|N|N||"
+#define DESK_DECPF_LINE "DECPF|11144477735|ANA LIMA|N|N|N|S|N|||N|||||"
 #define FOURTEEN(id) id "|1||||||||||||9999999999999|"
 
-static text head(unsigned declarant)
+static void add_declarant(text *t, unsigned kind, int scp, const char *rest)
+{
+    char line[PEOPLE_LINE];
+    people_declarant(kind, scp, rest, line);
+    add_line(t, line);
+}
+
+/* Lines 1 to 3 of a declaration with or without an SCP block. */
+static text head(unsigned declarant, int scp)
 {
     text t = {0};
     add_line(&t, DIRF_LINE);
     add_line(&t, RESPO_LINE);
-    add_line(&t, declarant == DECPF ? DECPF_LINE : DECPJ_LINE);
+    add_declarant(&t, declarant, scp, NULL);
+    return t;
+}
+
+/* Document 01's file as printed, by no maker, with line n changed where n is not 0. */
+static text desk_changed(unsigned n, const char *line)
+{
+    static const char *const printed[] = {DIRF_LINE, RESPO_LINE, DESK_DECPF_LINE,
+        "SCP|11222333000181|SCP SERRA|", "BPFSCP|11144477735|ANA LIMA||", "FIMDirf|"};
+    text t = {0};
+    for (unsigned i = 1; i <= 6; i++)
+        add_line(&t, i == n ? line : printed[i - 1]);
     return t;
 }
 
 static text desk_example(void)
 {
-    text t = head(DECPF);
-    add_line(&t, "SCP|11222333000181|SCP SERRA|");
-    add_line(&t, "BPFSCP|11144477735|ANA LIMA||");
-    add_line(&t, "FIMDirf|");
-    return t;
+    return desk_changed(0, NULL);
+}
+
+static void expect_desk(const char *what, unsigned n, const char *changed, uint32_t number,
+                        uint32_t line, uint32_t field)
+{
+    text t = desk_changed(n, changed);
+    expect(what, &t, number, line, field);
+    drop(&t);
 }
 
 /* Lines joined by a line feed sign ~ after a head; each gets its CR LF. */
 static void expect_after(const char *what, unsigned declarant, const char *lines,
                          uint32_t number, uint32_t line, uint32_t field)
 {
-    text t = head(declarant);
+    text t = head(declarant, people_has_scp(lines, '~'));
     for (const char *s = lines; *s; s += strcspn(s, "~") + (s[strcspn(s, "~")] != 0)) {
-        add_bytes(&t, s, strcspn(s, "~"));
-        add(&t, "\r\n");
+        char one[PEOPLE_LINE];
+        sprintf(one, "%.*s", (int)strcspn(s, "~"), s);
+        add_line(&t, one);
     }
     expect(what, &t, number, line, field);
     drop(&t);
 }
 
-/* Three lines of a head with one of them changed. */
-static void expect_head(const char *what, const char *l1, const char *l2, const char *l3,
-                        uint32_t number, uint32_t line, uint32_t field)
+/* A declaration without a block: lines 1 and 2, or the declarant's last fields, may be given. */
+static void expect_short(const char *what, const char *l1, const char *l2, unsigned kind, const char *rest,
+                         plain_answer wanted)
 {
     text t = {0};
     add_line(&t, l1 ? l1 : DIRF_LINE);
     add_line(&t, l2 ? l2 : RESPO_LINE);
-    add_line(&t, l3 ? l3 : DECPF_LINE);
+    add_declarant(&t, kind, 0, rest);
     add_line(&t, "FIMDirf|");
-    expect(what, &t, number, line, field);
+    expect(what, &t, wanted.number, wanted.line, wanted.field);
     drop(&t);
+}
+
+static void expect_head(const char *what, const char *l1, const char *l2, uint32_t number,
+                        uint32_t line, uint32_t field)
+{
+    expect_short(what, l1, l2, DECPF, NULL, (plain_answer){number, line, field, 0});
+}
+
+static void expect_declarant(const char *what, unsigned kind, const char *rest, uint32_t number,
+                             uint32_t line, uint32_t field)
+{
+    expect_short(what, NULL, NULL, kind, rest, (plain_answer){number, line, field, 0});
 }
 
 static void expect_bytes(const char *what, const char *s, uint32_t number, uint32_t line,
@@ -211,6 +265,93 @@ static void expect_bytes(const char *what, const char *s, uint32_t number, uint3
     add(&t, s);
     expect(what, &t, number, line, field);
     drop(&t);
+}
+
+/* ---- the makers ---- */
+
+static void good_id(size_t len, unsigned serial, char *out)
+{
+    if (len == 14)
+        people_cnpj(serial, out);
+    else
+        people_cpf(serial, out);
+}
+
+static int id_right(const char *id)
+{
+    return people_right((const uint8_t *)id, strlen(id));
+}
+
+/* Of the hundred endings of a number only the maker's own is right. */
+static int only_right(const char *id)
+{
+    char other[PEOPLE_ID];
+    int ok = 1;
+    for (unsigned end = 0; end < 100; end++) {
+        sprintf(other, "%.*s%02u", (int)strlen(id) - 2, id, end);
+        ok = ok && id_right(other) == (strcmp(other, id) == 0);
+    }
+    return ok;
+}
+
+static void test_makers(void)
+{
+    char id[PEOPLE_ID], before[2][PEOPLE_ID] = {"", ""}, line[PEOPLE_LINE];
+    people_cpf(111444777, id);
+    is_true(strcmp(id, "11144477735") == 0 && id_right(id), "A1's CPF", 0, 0);
+    people_cnpj(11222333, id);
+    is_true(strcmp(id, "11222333000181") == 0 && id_right(id), "A1's CNPJ", 0, 0);
+    is_true(!id_right("11144477753") && !id_right("11222333000118"), "two digits swapped", 0, 0);
+    is_true(!id_right("1114447773") && !id_right("111.444.777-35") && !id_right(""), "no number", 0, 0);
+    for (unsigned i = 0; i < 2000; i++) {
+        good_id(i % 2 ? 14 : 11, i, id);
+        is_true(strcmp(id, before[i % 2]) > 0, "a greater serial, a greater number", i, 0);
+        strcpy(before[i % 2], id);
+        is_true(only_right(id), "right check digits alone", i, 0);
+    }
+    people_declarant(DECPF, 1, NULL, line);
+    is_true(strcmp(line, DESK_DECPF_LINE) == 0, "document 01's declarant", 0, 0);
+    for (unsigned kind = 1; kind <= plain_kinds(); kind++)
+        for (unsigned f = 1; f <= plain_fields(kind); f++) {
+            plain_row r = plain_field_row(kind, f);
+            int sized = r.format == 'N' && r.fixed && (r.size == 11 || r.size == 14);
+            is_true(people_is_id(plain_name(kind), f) == (sized || r.cpf_or_cnpj), plain_name(kind), kind, f);
+        }
+}
+
+#define PF(health, scp) "DECPF|{cpf 1}|A|N|N|" health "|" scp "|N|||N|||||"
+#define PJ(scp, health) "DECPJ|{cnpj 1}|A|0|{cpf 1}|" scp "|N|N|N|" health "|N|N|N||"
+
+/* The look names the spoiled spot in what an answer takes for right; the checker is not asked, as its rules will grow. */
+static void test_spoiled(void)
+{
+    struct { const char *l3, *l4; uint32_t number, line, field; people_spot spot; } c[] = {
+        {PF("N", "N"), "IDREC|0561|", 0, 5, 0, {0, 0}}, {PJ("N", "N"), "IDREC|0561|", 0, 5, 0, {0, 0}},
+        {PF("N", "S"), "SCP|{cnpj 1}|A|", 0, 5, 0, {0, 0}}, {PJ("S", "N"), "SCP|{cnpj 1}|A|", 0, 5, 0, {0, 0}},
+        {PF("N", "N"), "SCP|{cnpj 1}|A|", 0, 5, 0, {4, 1}}, {PJ("N", "N"), "SCP|{cnpj 1}|A|", 0, 5, 0, {4, 1}},
+        {PF("N", "S"), "IDREC|0561|", 0, 5, 0, {5, 1}}, {PJ("S", "N"), "IDREC|0561|", 0, 5, 0, {5, 1}},
+        {PF("S", "N"), "IDREC|0561|", 0, 5, 0, {5, 1}}, {PJ("N", "S"), "IDREC|0561|", 0, 5, 0, {5, 1}},
+        {PF("N", "S"), "IDREC|0561|", 7, 5, 0, {5, 1}}, {PF("N", "S"), "IDREC|0561|", 1, 5, 0, {0, 0}},
+        {PF("N", "N"), "SCP|{cnpj 1}|", 11, 4, 0, {4, 1}}, {PF("N", "N"), "SCP|{cnpj 1}|A|", 12, 4, 1, {0, 0}},
+        {PF("N", "S"), "SCP|11222333000118|A|", 0, 5, 0, {4, 2}}, {PF("N", "S"), "SCP|00000000000001|A|", 0, 5, 0, {4, 2}},
+        {PF("N", "S"), "SCP|11222333000118|A|", 20, 4, 2, {4, 2}}, {PF("N", "S"), "SCP|1122233300011|A|", 15, 4, 2, {0, 0}},
+        {PF("N", "S"), "SCP|11222333000118||", 13, 4, 3, {4, 2}}, {PF("N", "S"), "SCP|11222333000118||", 8, 4, 0, {0, 0}},
+        {PJ("N", "N"), "PROC|1|7|1|{cpf 7}|||", 0, 5, 0, {0, 0}}, {PJ("N", "N"), "PROC|1|7|2|{cnpj 7}|||", 0, 5, 0, {0, 0}},
+        {PJ("N", "N"), "PROC|1|7|1|11144477753|||", 0, 5, 0, {4, 5}}, {PF("N", "N"), "RRA|1||2|11222333000118|||", 0, 5, 0, {4, 5}},
+        {"DECPF|{cpf 1}|A|N|N|N|N|N|||N|||11144477736||", "IDREC|0561|", 0, 5, 0, {3, 14}},
+        {"DECPF|11144477753|A|N|N|N|N|N|||N|||||", "IDREC|0561|", 0, 5, 0, {3, 2}},
+    };
+    for (unsigned i = 0; i < sizeof c / sizeof *c; i++) {
+        text t = {0};
+        add_line(&t, DIRF_LINE);
+        add_line(&t, RESPO_LINE);
+        add_line(&t, c[i].l3);
+        add_line(&t, c[i].l4);
+        add_line(&t, "FIMDirf|");
+        people_spot spot = people_wrong(t.bytes, t.len, (plain_answer){c[i].number, c[i].line, c[i].field, 0});
+        is_true(spot.line == c[i].spot.line && spot.field == c[i].spot.field, "spoiled", i, spot.line);
+        drop(&t);
+    }
 }
 
 /* ---- M1 to M12 ---- */
@@ -235,10 +376,10 @@ static void test_marked(void)
     add(&t, "\n");
     expect("M4", &t, 2, 7, 0);
     drop(&t);
-    expect_head("M5", "DIRF|2025|2024|N||R6GP3ZA|", NULL, NULL, 9, 1, 1);
+    expect_desk("M5", 1, "DIRF|2025|2024|N||R6GP3ZA|", 9, 1, 1);
     expect_after("M6", DECPF, "SCP|11222333000181|SCP SERRA|~BPFSCP|11144477735|ANA LIMA||"
                  "~FIMDirf", 8, 6, 0);
-    expect_head("M7", NULL, NULL, "DECPF|11144477735|ANA LIMA|N|N|N|S|S|||N|||||", 19, 3, 9);
+    expect_desk("M7", 3, "DECPF|11144477735|ANA LIMA|N|N|N|S|S|||N|||||", 19, 3, 9);
     expect_after("M8", DECPF, "SCP|11222333000181|SCP SERRA|~BPFSCP|11144477735|ANA LIMA||"
                  "~BPFSCP|11144477735|ANA LIMA||~FIMDirf|", 20, 6, 2);
     is_true(plain_read_amount((const uint8_t *)"0", 1).number == 16, "M9", 0, 0);
@@ -248,7 +389,7 @@ static void test_marked(void)
     is_true(plain_read_amount((const uint8_t *)"99999999999999", 14).number == 15, "M10", 14, 0);
     is_true(write_fields(49, "BPFFCI|11144477735|A|20240229|", out, 256).number == 0, "M11", 0, 0);
     is_true(write_fields(49, "BPFFCI|11144477735|A|20230229|", out, 256).number == 17, "M11", 1, 0);
-    expect_head("M12", NULL, "RESPO|11144477735|ANA LIMA|01|33334444||||", NULL, 16, 2, 4);
+    expect_desk("M12", 2, "RESPO|11144477735|ANA LIMA|01|33334444||||", 16, 2, 4);
 }
 
 /* ---- every number alone ---- */
@@ -313,44 +454,42 @@ static void test_records_alone(void)
     expect_after("15", DECPJ, "IDREC|056|", 15, 4, 2);
     expect_after("16", DECPJ, "PROC|1|7|||| 1|", 14, 4, 7);
     expect_after("16", DECPJ, "PROC|1|7||||01|", 16, 4, 7);
-    expect_head("16 DDD", NULL, "RESPO|11144477735|ANA|09|33334444||||", NULL, 16, 2, 4);
-    expect_head("17", NULL, NULL, "DECPF|11144477735|ANA|N|N|N|S|S|20230229|2|N|||||", 17, 3, 9);
-    expect_head("18", "Dirf|2024|2024|N||R6GP3ZA|", NULL, NULL, 18, 1, 2);
-    expect_head("18", "Dirf|2025|2025|N||R6GP3ZA|", NULL, NULL, 18, 1, 3);
-    expect_head("18", "Dirf|2025|2024|n||R6GP3ZA|", NULL, NULL, 18, 1, 4);
-    expect_head("18", "Dirf|2025|2024|N||R6GP3Za|", NULL, NULL, 18, 1, 6);
-    expect_head("retificadora passes", "Dirf|2025|2024|S||R6GP3ZA|", NULL, NULL, 0, 4, 0);
-    expect_head("recibo passes", "Dirf|2025|2024|S|000000000000|R6GP3ZA|", NULL, NULL, 0, 4, 0);
-    expect_head("15 recibo", "Dirf|2025|2024|S|00000000000|R6GP3ZA|", NULL, NULL, 15, 1, 5);
+    expect_head("16 DDD", NULL, "RESPO|11144477735|ANA|09|33334444||||", 16, 2, 4);
+    expect_declarant("17", DECPF, "S|20230229|2|N|||||", 17, 3, 9);
+    expect_head("18", "Dirf|2024|2024|N||R6GP3ZA|", NULL, 18, 1, 2);
+    expect_head("18", "Dirf|2025|2025|N||R6GP3ZA|", NULL, 18, 1, 3);
+    expect_head("18", "Dirf|2025|2024|n||R6GP3ZA|", NULL, 18, 1, 4);
+    expect_head("18", "Dirf|2025|2024|N||R6GP3Za|", NULL, 18, 1, 6);
+    expect_head("retificadora passes", "Dirf|2025|2024|S||R6GP3ZA|", NULL, 0, 4, 0);
+    expect_head("recibo passes", "Dirf|2025|2024|S|000000000000|R6GP3ZA|", NULL, 0, 4, 0);
+    expect_head("15 recibo", "Dirf|2025|2024|S|00000000000|R6GP3ZA|", NULL, 15, 1, 5);
 }
 
 
 static void test_conditions_alone(void)
 {
-    struct { const char *line; uint32_t number, field; } c[] = {
-        {"DECPF|11144477735|A|N|N|N|S|S||1|S|||||", 19, 9},
-        {"DECPF|11144477735|A|N|N|N|S|S|20240101||S|||||", 19, 10},
-        {"DECPF|11144477735|A|N|N|N|S|S|20240101|1|N|||||", 19, 11},
-        {"DECPF|11144477735|A|N|N|N|S|S|20240101|1|S||1|||", 19, 13},
-        {"DECPF|11144477735|A|N|N|N|S|S|20240101|2|N||0|||", 19, 13},
-        {"DECPF|11144477735|A|N|N|N|S|S|||N||1|||", 19, 9},
-        {"DECPF|11144477735|A|N|N|N|S|S|20240101||N||1|||", 19, 10},
-        {"DECPF|11144477735|A|N|N|N|S|S|20240101|1|N||1|||", 19, 11},
-        {"DECPF|11144477735|A|N|N|N|S|S|20240101|1|S|||||", 0, 0},
-        {"DECPF|11144477735|A|N|N|N|S|S|20240101|2|N|||||", 0, 0},
-        {"DECPF|11144477735|A|N|N|N|S|S|20240101|2|S|20240101||11144477735|B|", 0, 0},
-        {"DECPF|11144477735|A|N|N|N|S|N|20240101|1|N|||||", 0, 0},
-        {"DECPF|11144477735|A|N|N|N|S|N||1|S||0|||", 0, 0},
-        {"DECPF|11144477735|A|N|N|N|S|N|||S|20240101|1|11144477735|B|", 0, 0},
+    struct { const char *rest; uint32_t number, field; } c[] = {
+        {"S||1|S|||||", 19, 9},
+        {"S|20240101||S|||||", 19, 10},
+        {"S|20240101|1|N|||||", 19, 11},
+        {"S|20240101|1|S||1|||", 19, 13},
+        {"S|20240101|2|N||0|||", 19, 13},
+        {"S|||N||1|||", 19, 9},
+        {"S|20240101||N||1|||", 19, 10},
+        {"S|20240101|1|N||1|||", 19, 11},
+        {"S|20240101|1|S|||||", 0, 0},
+        {"S|20240101|2|N|||||", 0, 0},
+        {"S|20240101|2|S|20240101||11144477735|B|", 0, 0},
+        {"N|20240101|1|N|||||", 0, 0},
+        {"N||1|S||0|||", 0, 0},
+        {"N|||S|20240101|1|11144477735|B|", 0, 0},
     };
     for (unsigned i = 0; i < sizeof c / sizeof *c; i++)
-        expect_head("conditions", NULL, NULL, c[i].line, c[i].number,
-                    c[i].number ? 3 : 4, c[i].field);
-    expect_head("no condition in DECPJ", NULL, NULL,
-                "DECPJ|11222333000181|E|0|11144477735|N|N|N|N|N|S|S|S||", 0, 4, 0);
+        expect_declarant("conditions", DECPF, c[i].rest, c[i].number, c[i].number ? 3 : 4, c[i].field);
+    expect_declarant("no condition in DECPJ", DECPJ, "S|S|S||", 0, 4, 0);
     expect_after("21", DECPF, BPF "~" FOURTEEN("RTRT") "~" FOURTEEN("RTRT"), 21, 7, 1);
     expect_after("21 apart", DECPF, BPF "~RIO|1|A|~" FOURTEEN("RTRT") "~RIO|2|B|", 21, 8, 1);
-    expect_after("seen starts afresh", DECPF, BPF "~RIO|1|A|~BPFDEC|11144477736|A||N|N|~RIO|1|A|"
+    expect_after("seen starts afresh", DECPF, BPF "~RIO|1|A|~BPFDEC|{cpf 111444778}|A||N|N|~RIO|1|A|"
                  "~FIMDirf|", 0, 9, 0);
     expect_after("20", DECPF, "IDREC|0561|~IDREC|0561|", 20, 5, 2);
     expect_after("20 less", DECPF, "IDREC|0562|~IDREC|0561|", 20, 5, 2);
@@ -365,12 +504,11 @@ static void test_every_condition(void)
     for (unsigned i = 0; i < 2 * 2 * 3 * 2 * 2 * 3; i++) {
         unsigned a = i % 2, b = i / 2 % 2, c = i / 4 % 3, d = i / 12 % 2, e = i / 24 % 2;
         unsigned g = i / 48, field = 0;
-        char line[128];
-        sprintf(line, "DECPF|11144477735|A|N|N|N|S|%s|%s|%s|%s|%s|%s|||", f8[a], date[b],
-                f10[c], f8[d], date[e], f13[g]);
+        char rest[128];
+        sprintf(rest, "%s|%s|%s|%s|%s|%s|||", f8[a], date[b], f10[c], f8[d], date[e], f13[g]);
         if (a == 0)
             field = b == 0 ? 9 : c == 0 ? 10 : c == 1 && d == 1 ? 11 : g > 0 ? 13 : 0;
-        expect_head("every condition", NULL, NULL, line, field ? 19 : 0, field ? 3 : 4, field);
+        expect_declarant("every condition", DECPF, rest, field ? 19 : 0, field ? 3 : 4, field);
     }
 }
 
@@ -393,10 +531,10 @@ static void test_rooms(void)
 /* A file of many lines: a head, then SCP lines. */
 static text many_lines(uint32_t lines)
 {
-    text t = head(DECPF);
+    text t = head(DECPF, 1);
     char line[64];
     for (uint32_t n = 4; n <= lines; n++) {
-        snprintf(line, sizeof line, "SCP|%014u|A|", n);
+        snprintf(line, sizeof line, "SCP|{cnpj %u}|A|", n);
         add_line(&t, line);
     }
     return t;
@@ -407,6 +545,7 @@ static void expect_big(const char *what, const text *t, size_t room, uint32_t nu
 {
     plain_answer a = run_plain(t->bytes, t->len, room, NULL);
     is_true(a.number == number && a.line == line && a.field == 0, what, a.number, a.line);
+    is_right(what, t, (plain_answer){number, line, 0, 0});
 }
 
 static void test_many_lines(void)
@@ -491,21 +630,21 @@ static void test_order_of_fields(void)
     expect_after("12 before 20", DECPF, "RRA|1||||||~SCP|11222333000181|A|~RRA|1||||||", 12, 6, 1);
     expect_after("14 before 15", DECPJ, "IDREC|X|", 14, 4, 2);
     expect_after("14 before 16", DECPJ, "PROC|1|7||||0X|", 14, 4, 7);
-    expect_after("14 before 17", DECPJ, BPF "~BPFDEC|11144477736|A|2023022X|N|N|", 14, 6, 4);
+    expect_after("14 before 17", DECPJ, BPF "~BPFDEC|{cpf 111444778}|A|2023022X|N|N|", 14, 6, 4);
     expect_after("14 before 18", DECPJ, "PROC|X|7|||||", 14, 4, 2);
     expect_after("15 before 16", DECPJ, "PROC|1|7||||01234567890123|", 15, 4, 7);
-    expect_after("15 before 17", DECPJ, BPF "~BPFDEC|11144477736|A|2023022|N|N|", 15, 6, 4);
+    expect_after("15 before 17", DECPJ, BPF "~BPFDEC|{cpf 111444778}|A|2023022|N|N|", 15, 6, 4);
     expect_after("15 before 18", DECPJ, "PROC|99|7|||||", 15, 4, 2);
-    expect_head("15 before 16 in DDD", NULL, "RESPO|11144477735|A|0|33334444||||", NULL, 15, 2, 4);
-    expect_head("15 before 16 in DDD", NULL, "RESPO|11144477735|A|011|33334444||||", NULL, 15, 2, 4);
-    expect_head("15 before 19", NULL, NULL, "DECPF|11144477735|A|N|N|N|S|S|||N||||"
-                "1234567890123456789012345678901234567890123456789012345678901|", 15, 3, 15);
-    expect_head("18 before 19", NULL, NULL, "DECPF|11144477735|A|N|N|N|S|S|||N||2|||", 18, 3, 13);
-    expect_head("13 before 19", NULL, NULL, "DECPF|11144477735|A|N|N|N|S|S||||||||", 13, 3, 11);
+    expect_head("15 before 16 in DDD", NULL, "RESPO|11144477735|A|0|33334444||||", 15, 2, 4);
+    expect_head("15 before 16 in DDD", NULL, "RESPO|11144477735|A|011|33334444||||", 15, 2, 4);
+    expect_declarant("15 before 19", DECPF, "S|||N||||"
+                     "1234567890123456789012345678901234567890123456789012345678901|", 15, 3, 15);
+    expect_declarant("18 before 19", DECPF, "S|||N||2|||", 18, 3, 13);
+    expect_declarant("13 before 19", DECPF, "S||||||||", 13, 3, 11);
     expect_after("11 before 21", DECPF, BPF "~RIO|1|A|~RIO|1|", 11, 7, 0);
     expect_after("13 before 21", DECPF, BPF "~RIO|1|A|~RIO||A|", 13, 7, 2);
     expect_after("16 before 21", DECPF, BPF "~RIO|1|A|~RIO|0|A|", 16, 7, 2);
-    expect_after("13 before 20", DECPF, BPF "~BPFDEC|11144477734||||N|", 13, 6, 3);
+    expect_after("13 before 20", DECPF, BPF "~BPFDEC|{cpf 111444776}||||N|", 13, 6, 3);
     expect_after("15 before 20", DECPF, BPF "~BPFDEC|1114447773|A||N|N|", 15, 6, 2);
     expect_after("12 before 21", DECPF, BPF "~RIO|1|A|~IDREC|0562|~RIO|1|A|", 12, 8, 1);
 }
@@ -516,12 +655,12 @@ static void test_seven_is_last(void)
         {"", 8, 0}, {"xx|", 9, 1}, {"INF|", 10, 1}, {"FCI|", 12, 1}, {"RIO|", 11, 0},
         {"RIAP|X|||||||||||||", 14, 2}, {"RIAP|00000000000000|||||||||||||", 15, 2},
         {"RIAP|||0|||||||||||", 16, 4}, {"RIO||A|", 13, 2}, {"RIO|2|B|", 21, 1},
-        {"BPFDEC|11144477735|A||N|N|", 20, 2}, {"BPFDEC|11144477736|A|20241301|N|N|", 17, 4},
-        {"BPFDEC|11144477736|A||X|N|", 18, 5}, {"BPFDEC|11144477736|A||N|N|", 7, 0},
+        {"BPFDEC|11144477735|A||N|N|", 20, 2}, {"BPFDEC|{cpf 111444778}|A|20241301|N|N|", 17, 4},
+        {"BPFDEC|{cpf 111444778}|A||X|N|", 18, 5}, {"BPFDEC|{cpf 111444778}|A||N|N|", 7, 0},
         {"FIMDirf|", 7, 0}, {"RIAP||||||||||||||", 7, 0},
     };
     for (unsigned i = 0; i < sizeof c / sizeof *c; i++) {
-        text t = head(DECPF);
+        text t = head(DECPF, 0);
         add_line(&t, "IDREC|0561|");
         add_line(&t, "BPFDEC|11144477735|A||N|N|");
         add_line(&t, "RIO|1|A|");
@@ -530,7 +669,7 @@ static void test_seven_is_last(void)
         drop(&t);
     }
     expect_bytes("1 with no room", "", 1, 1, 0);
-    text t = head(DECPF);
+    text t = head(DECPF, 0);
     expect_room("1 before 7", &t, 3, 1, 4, 0);
     add(&t, "x");
     expect_room("5 before 7", &t, 3, 5, 4, 0);
@@ -539,21 +678,26 @@ static void test_seven_is_last(void)
     add_line(&t, "Dirf|2025|2024|N||R6GP3Z|");
     expect_room("15 before 7", &t, 0, 15, 1, 6);
     drop(&t);
-    t = head(DECPF);
-    t.len = 72;
-    add_line(&t, "DECPF|11144477735|A|N|N|N|S|S|||N|||||");
+    t = (text){0};
+    add_line(&t, DIRF_LINE);
+    add_line(&t, RESPO_LINE);
+    add_declarant(&t, DECPF, 0, "S|||N|||||");
     expect_room("19 before 7", &t, 2, 19, 3, 9);
     drop(&t);
 }
 
 /* ---- good contents for every field ---- */
 
-/* A good content of field f, with room for 150 bytes and a 0. */
+/* A good content of field f, with room for 150 bytes and a 0; a declarant without an SCP block. */
 static void good_field(unsigned kind, unsigned f, unsigned serial, char *out)
 {
     plain_row r = plain_field_row(kind, f);
-    const char *name = plain_name(kind);
-    if (kind == DECPF && f == 8)
+    const char *name = plain_name(kind), *flag = people_flag(kind, f, 0);
+    if (flag != NULL)
+        strcpy(out, flag);
+    else if (people_is_id(name, f))
+        good_id(r.fixed ? r.size : 11, serial, out);
+    else if (kind == DECPF && f == 8)
         strcpy(out, "N");
     else if ((strcmp(name, "PROC") == 0 || strcmp(name, "RRA") == 0) && f == 3)
         sprintf(out, "%08u", serial);
@@ -565,8 +709,6 @@ static void good_field(unsigned kind, unsigned f, unsigned serial, char *out)
         strcpy(out, "11");
     else if (r.telephone)
         strcpy(out, "33334444");
-    else if (r.cpf_or_cnpj)
-        strcpy(out, "00000000191");
     else if (r.format == 'N' && r.fixed)
         sprintf(out, "%0*u", (int)r.size, serial);
     else
@@ -614,10 +756,10 @@ static unsigned named(const char *name)
     return 0;
 }
 
-/* A file that runs down a path of names; serial 1 for each of them. */
-static text path_file(unsigned declarant, const char *path, uint32_t *lines)
+/* A file that runs down a path of names, serial 1 for each of them; next is what the test will add. */
+static text path_file(unsigned declarant, const char *path, const char *next, uint32_t *lines)
 {
-    text t = head(declarant);
+    text t = head(declarant, people_has_scp(path, ' ') || people_has_scp(next, ' '));
     char line[512], name[16];
     int used;
     *lines = 3;
@@ -643,14 +785,12 @@ static int holds(const char *list, const char *name)
 static void test_path(unsigned declarant, const char *path, const char *beneficiary,
                       const char *may)
 {
-    uint32_t lines;
-    text t = path_file(declarant, path, &lines);
-    size_t len = t.len;
     for (unsigned kind = 1; kind <= plain_kinds(); kind++) {
         char line[512];
+        uint32_t lines;
         const char *name = plain_name(kind);
         int value = plain_below(declarant, named(beneficiary), kind);
-        t.len = len;
+        text t = path_file(declarant, path, name, &lines);
         good_line(kind, 2, line);
         add_line(&t, plain_is_base(kind) ? line : strcat(strcpy(line, name), "|"));
         if (!plain_is_base(kind))
@@ -663,8 +803,8 @@ static void test_path(unsigned declarant, const char *path, const char *benefici
             expect(name, &t, value && holds(path, name) ? 21 : 1,
                    lines + (value && holds(path, name) ? 1 : 2),
                    value && holds(path, name));
+        drop(&t);
     }
-    drop(&t);
 }
 
 static void test_tree_decpf(void)
@@ -731,7 +871,7 @@ static void test_parents(void)
     static const uint32_t parents[] = {0, 0, 0, 3, 4, 5, 5, 4, 8, 3, 10, 11, 12, 11, 3, 15,
         16, 17, 16, 19, 3, 21, 22, 23, 3, 25, 26, 25, 28, 0};
     uint32_t lines, table[4 * 30];
-    text t = path_file(DECPJ, path, &lines);
+    text t = path_file(DECPJ, path, "", &lines);
     expect("one of each place", &t, 0, 30, 0);
     is_true(plain_check(t.bytes, t.len, table, 120).number == 0, "accepted", 0, 0);
     size_t start = 0;
@@ -765,25 +905,25 @@ static void test_keys(void)
     expect_after("RRA empty after", j, "RRA|1|0|||||~RRA|1||||||", 20, 5, 2);
     expect_after("RRA both empty", j, "RRA|1||||||~RRA|1||||||", 20, 5, 2);
     expect_after("RRA next", j, "RRA|1|9|||||~RRA|2||||||~FIMDirf|", 0, 6, 0);
-    expect_after("FCI", j, "FCI|00000000000002|A|~FCI|00000000000001|A|", 20, 5, 2);
-    expect_after("SCP", j, "SCP|00000000000002|A|~SCP|00000000000002|B|", 20, 5, 2);
-    expect_after("FCI then SCP", j, "FCI|00000000000002|A|~SCP|00000000000001|A|~FIMDirf|", 0, 6, 0);
-    expect_after("fresh in the next IDREC", j, BPF "~IDREC|0562|~BPFDEC|00000000000|A||N|N|"
+    expect_after("FCI", j, "FCI|{cnpj 2}|A|~FCI|{cnpj 1}|A|", 20, 5, 2);
+    expect_after("SCP", j, "SCP|{cnpj 2}|A|~SCP|{cnpj 2}|B|", 20, 5, 2);
+    expect_after("FCI then SCP", j, "FCI|{cnpj 2}|A|~SCP|{cnpj 1}|A|~FIMDirf|", 0, 6, 0);
+    expect_after("fresh in the next IDREC", j, BPF "~IDREC|0562|~BPFDEC|{cpf 0}|A||N|N|"
                  "~FIMDirf|", 0, 8, 0);
-    expect_after("fresh IDREC in FCI", j, "IDREC|9999|~FCI|00000000000001|A|~IDREC|0001|"
+    expect_after("fresh IDREC in FCI", j, "IDREC|9999|~FCI|{cnpj 1}|A|~IDREC|0001|"
                  "~FIMDirf|", 0, 7, 0);
-    expect_after("IDREC of two FCI", j, "FCI|00000000000001|A|~IDREC|0002|~FCI|00000000000002|A|"
+    expect_after("IDREC of two FCI", j, "FCI|{cnpj 1}|A|~IDREC|0002|~FCI|{cnpj 2}|A|"
                  "~IDREC|0001|~FIMDirf|", 0, 8, 0);
-    expect_after("IDREC past its children", j, "FCI|00000000000001|A|~IDREC|0002|"
-                 "~BPFFCI|00000000001|A||~IDREC|0002|", 20, 7, 2);
-    expect_after("person then firm", j, BPF "~BPJDEC|00000000000000|A|~FIMDirf|", 0, 7, 0);
+    expect_after("IDREC past its children", j, "FCI|{cnpj 1}|A|~IDREC|0002|"
+                 "~BPFFCI|{cpf 1}|A||~IDREC|0002|", 20, 7, 2);
+    expect_after("person then firm", j, BPF "~BPJDEC|{cnpj 0}|A|~FIMDirf|", 0, 7, 0);
     expect_after("key past values", j, BPF "~" FOURTEEN("RTRT") "~BPFDEC|11144477735|A||N|N|",
                  20, 7, 2);
-    expect_after("BPFRRA by CPF alone", j, "RRA|1||||||~IDREC|1889|~BPFRRA|00000000001|A|X||N|"
-                 "~BPFRRA|00000000001|A|Y||N|", 20, 7, 2);
-    expect_after("CPF keeps its zeros", j, BPF "~BPFDEC|01144477735|A||N|N|", 20, 6, 2);
-    expect_after("SCP beneficiaries afresh", j, "SCP|00000000000001|A|~BPFSCP|00000000002|A||"
-                 "~SCP|00000000000002|A|~BPFSCP|00000000001|A||~FIMDirf|", 0, 8, 0);
+    expect_after("BPFRRA by CPF alone", j, "RRA|1||||||~IDREC|1889|~BPFRRA|{cpf 1}|A|X||N|"
+                 "~BPFRRA|{cpf 1}|A|Y||N|", 20, 7, 2);
+    expect_after("CPF keeps its zeros", j, BPF "~BPFDEC|{cpf 11444777}|A||N|N|", 20, 6, 2);
+    expect_after("SCP beneficiaries afresh", j, "SCP|{cnpj 1}|A|~BPFSCP|{cpf 2}|A||"
+                 "~SCP|{cnpj 2}|A|~BPFSCP|{cpf 1}|A||~FIMDirf|", 0, 8, 0);
 }
 
 /* ---- every field of every row, by the writer and inside a file ---- */
@@ -798,7 +938,7 @@ static const char *path_to(unsigned kind, unsigned *declarant)
     for (unsigned i = 0; kind > 4 && i < sizeof paths / sizeof *paths; i++) {
         uint32_t lines;
         char line[512];
-        text t = path_file(DECPJ, paths[i], &lines);
+        text t = path_file(DECPJ, paths[i], plain_name(kind), &lines);
         good_line(kind, 2, line);
         add_line(&t, line);
         plain_answer a = plain_check_room(t.bytes, t.len, 100);
@@ -833,7 +973,7 @@ static void test_field_value(unsigned kind, unsigned f, const char *value, uint3
     text t = {0};
     const char *path = path_to(kind, &d);
     if (path != NULL)
-        t = path_file(d, path, &lines);
+        t = path_file(d, path, plain_name(kind), &lines);
     else
         for (uint32_t n = 1; n <= lines; n++)
             add_line(&t, n == 1 ? DIRF_LINE : RESPO_LINE);
@@ -865,7 +1005,10 @@ static void test_sizes(unsigned kind, unsigned f, plain_row r)
     for (size_t n = 1; n <= r.size + 2u; n++) {
         int ok = r.fixed ? n == r.size : n <= r.size;
         ok = r.telephone ? n == 8 || n == 9 : r.cpf_or_cnpj ? n == 11 || n == 14 : ok;
-        test_field_value(kind, f, many(digit, n), ok ? 0 : 15);
+        char id[PEOPLE_ID];
+        good_id(n, 11111111, id);
+        int fits = ok && people_is_id(plain_name(kind), f);
+        test_field_value(kind, f, fits ? id : many(digit, n), ok ? 0 : 15);
     }
 }
 
@@ -1121,9 +1264,17 @@ static void test_writer_refusals(void)
     expect_written("14 LF in C", 43, "RIO|1|\nA|", 14, 3);
     expect_written("14 in N", 43, "RIO|1\r|A|", 14, 2);
     expect_written("13 in RIO", 43, "RIO||A|", 13, 2);
-    expect_written("19", 3, "DECPF|11144477735|A|N|N|N|S|S|||N|||||", 19, 9);
-    expect_written("19", 3, "DECPF|11144477735|A|N|N|N|S|S|20240101|2|N||1|||", 19, 13);
-    expect_written("18 before 19", 3, "DECPF|11144477735|A|N|N|N|S|S|||N||3|||", 18, 13);
+}
+
+static void test_writer_conditions(void)
+{
+    struct { const char *rest; uint32_t number, field; } c[] = {
+        {"S|||N|||||", 19, 9}, {"S|20240101|2|N||1|||", 19, 13}, {"S|||N||3|||", 18, 13}};
+    for (unsigned i = 0; i < sizeof c / sizeof *c; i++) {
+        char line[PEOPLE_LINE];
+        people_declarant(DECPF, 0, c[i].rest, line);
+        expect_written("conditions written", DECPF, line, c[i].number, c[i].field);
+    }
 }
 
 static void test_writer_lengths(void)
@@ -1180,6 +1331,14 @@ static void test_writer_rooms(void)
     }
 }
 
+static void test_writer(void)
+{
+    test_writer_refusals();
+    test_writer_conditions();
+    test_writer_lengths();
+    test_writer_rooms();
+}
+
 /* ---- helpers out of range ---- */
 
 static void test_helpers(void)
@@ -1201,6 +1360,7 @@ static void test_helpers(void)
 /* ---- random files, good ones and changed ones ---- */
 
 static unsigned serial;
+static int scp_to_come;                 /* the declarant's line is made before its blocks */
 
 /* A good line with optional fields often empty and sizes often full. */
 static void random_line(text *t, unsigned kind, int changed)
@@ -1212,6 +1372,8 @@ static void random_line(text *t, unsigned kind, int changed)
         char field[160];
         plain_row r = plain_field_row(kind, f);
         good_field(kind, f, serial, field);
+        if (people_flag(kind, f, scp_to_come) != NULL)
+            strcpy(field, people_flag(kind, f, scp_to_come));
         int key = kind == named("RRA") && f == 3;
         if (f > 1 && !r.obligatory && !key && below_n(2))
             field[0] = 0;
@@ -1264,9 +1426,10 @@ static text random_file(int changed)
 {
     static const char *const blocks[][3] = {
         {"FCI", "BPFFCI", "BPJFCI"}, {"PROC", "BPFPROC", "BPJPROC"}, {"RRA", "BPFRRA", NULL}};
-    unsigned d = DECPF + below_n(2);
+    unsigned d = DECPF + below_n(2), scps = below_n(3);
     text t = {0};
     serial = 100;
+    scp_to_come = scps > 0;
     random_line(&t, 1, changed);
     random_line(&t, 2, changed);
     random_line(&t, d, changed);
@@ -1276,7 +1439,7 @@ static text random_file(int changed)
             random_line(&t, named(blocks[b][0]), changed);
             random_codes(&t, d, blocks[b][1], blocks[b][2], changed);
         }
-    for (unsigned n = below_n(3); n > 0; n--) {
+    for (; scps > 0; scps--) {
         random_line(&t, named("SCP"), changed);
         random_beneficiaries(&t, d, "BPFSCP", "BPJSCP", changed);
     }
@@ -1338,6 +1501,7 @@ static void test_random_files(unsigned rounds)
         plain_answer a = run(t.bytes, t.len, 10000);
         is_true(a.number == 0 && a.entries == count_lf(t.bytes, t.len), "good file",
                 a.number * 1000 + a.field, a.line);
+        is_right("a random file", &t, (plain_answer){0, (uint32_t)count_lf(t.bytes, t.len), 0, 0});
         size_t room = below_n((uint32_t)a.entries);
         a = run(t.bytes, t.len, room);
         is_true(a.number == 7 && a.entries == room, "less room", a.number, room);
@@ -1376,7 +1540,7 @@ static void test_random_bytes(unsigned rounds)
         for (size_t j = 0; j < len; j++)
             bytes[j] = narrow ? (uint8_t)some[below_n(sizeof some - 1)] : (uint8_t)below_n(256);
         run(bytes, len, below_n(6));
-        text t = head(DECPF + below_n(2));
+        text t = head(DECPF + below_n(2), 0);
         add_bytes(&t, bytes, len);
         run(t.bytes, t.len, below_n(3) ? 100 : below_n(8));
         drop(&t);
@@ -1425,6 +1589,8 @@ int main(int argc, char **argv)
     unsigned rounds = argc > 1 ? (unsigned)atoi(argv[1]) : 20000;
     if (argc > 2)
         rng ^= (uint64_t)atoll(argv[2]) * 2654435761u;
+    test_makers();
+    test_spoiled();
     test_marked();
     test_lines_alone();
     test_records_alone();
@@ -1445,9 +1611,7 @@ int main(int argc, char **argv)
     test_number(plain_read_amount, plain_write_amount, 9999999999999u, 13);
     test_number(plain_read_months, plain_write_months, 9999u, 4);
     test_field_reader();
-    test_writer_refusals();
-    test_writer_lengths();
-    test_writer_rooms();
+    test_writer();
     test_helpers();
     test_random_files(rounds);
     test_cuts(rounds / 1000 + 2);

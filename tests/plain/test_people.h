@@ -1,0 +1,36 @@
+/* Makers of the people in the test data that is meant to be right, and a look for wrong ones; for tests alone. */
+#ifndef TEST_PEOPLE_H
+#define TEST_PEOPLE_H
+
+#include "plain.h"
+
+enum { DECPF = 3, DECPJ = 4 };
+enum { PEOPLE_ID = 16, PEOPLE_LINE = 512 };     /* room for a CPF or a CNPJ, and for a declarant's line */
+
+/* Serials below 1,000,000,000 for a CPF and 100,000,000 for a CNPJ; a greater serial gives a greater number. */
+void people_cpf(uint32_t serial, char *out);
+void people_cnpj(uint32_t serial, char *out);
+
+/* Where {cpf 7} or {cnpj 7} stands at s, its number goes into out; gives the bytes passed over, else 0. */
+size_t people_stand_in(const char *s, char *out);
+
+/* Whether an SCP record is among lines, or names of records, joined by the sign between. */
+int people_has_scp(const char *records, char between);
+
+/* The SCP or health plan flag, if field f of the kind is one, else NULL: the base has no health plan block. */
+const char *people_flag(unsigned kind, unsigned f, int scp);
+
+/* A declarant's line; rest is fields 8 to 15 of DECPF or 11 to 14 of DECPJ, NULL for usual ones. */
+void people_declarant(unsigned kind, int scp, const char *rest, char *out);
+
+/* Whether field f of the record holds a CPF or a CNPJ where it is filled. */
+int people_is_id(const char *name, unsigned f);
+
+/* Whether it is a CPF or a CNPJ with right check digits. */
+int people_right(const uint8_t *id, size_t len);
+
+/* The first wrong number or flag in what the answer takes for right; line 0 where there is none. */
+typedef struct { uint32_t line, field; } people_spot;
+people_spot people_wrong(const uint8_t *file, size_t len, plain_answer a);
+
+#endif
