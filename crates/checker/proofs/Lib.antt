@@ -1,13 +1,5 @@
-pub mod Scan
-pub mod Sums
-pub mod Looks
-pub mod Next
-pub mod Outcome
-pub mod Reading
 pub mod Table
+pub mod Reading
 pub mod Held
-pub mod Bytewise
-pub mod Lookups
-pub mod Contents
-pub mod Determined
 pub mod Written
+pub mod Determined

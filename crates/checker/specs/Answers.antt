@@ -1,5 +1,6 @@
 -- The verdict as the check gives it.
 use Prim.Native.Nat.{ℕ, _*_, _/_}
+use mathlib.Core.Path.{_≡_}
 use mathlib.Core.List.{List, _++_}
 use lib.Dec.{ltb}
 use lib.ListN.{length, take, drop}
@@ -8,7 +9,7 @@ use Rattle.dirf.specs.Bytes.{if_then_else_, Text}
 use Rattle.dirf.specs.Limits.{numbersAnEntry}
 use Rattle.dirf.specs.Edition.{Edition}
 use Rattle.dirf.specs.Check as dirf
-use Rattle.dirf.specs.Check.{Verdict, numbersOf}
+use Rattle.dirf.specs.Check.{Verdict, numbersOf, verdict}
 use Rattle.dirf.specs.Theorems.Sound.{Sound}
 use Rattle.layout.specs.LaidOut.{Say, SayBelow}
 use Rattle.checker.specs.Lines.{thirdKind}
@@ -39,9 +40,21 @@ entryOfCode e = record { kind = e .kind; start = e .start; length = e .len; pare
 unfoldable pub putEntry : List ℕ → ℕ → List ℕ → List ℕ
 putEntry t n row = if ltb n (length t / numbersAnEntry) then sets t (numbersAnEntry * n) row else t
 
--- the lent tables say an edition that is sound
+-- the lent tables say an edition, as far as a file asks them
+pub record SayAll (e : Edition) (names rows : List ℕ) (below : List (List ℕ)) (file : Text) : Type 0 where
+  pub sound : Sound e
+  pub say : Say e names rows
+  pub say-below : SayBelow e (thirdKind names file) below
+
+-- there is such an edition
 pub record Tabled (names rows : List ℕ) (below : List (List ℕ)) (file : Text) : Type 0 where
   pub edition : Edition
-  pub sound : Sound edition
-  pub say : Say edition names rows
-  pub say-below : SayBelow edition (thirdKind names file) below
+  pub all : SayAll edition names rows below file
+
+-- for every edition that the tables say: the answer, and what is left in the table
+abbrev pub Answers : List ℕ → List ℕ → List (List ℕ) → Text → ℕ → Answer → Type 0
+Answers names rows below file room r = (e : Edition) → SayAll e names rows below file → r ≡ answerOf (verdict e file room)
+
+abbrev pub Leaves : List ℕ → List ℕ → List (List ℕ) → Text → ℕ → List ℕ → List ℕ → Type 0
+Leaves names rows below file room before after =
+    (e : Edition) → SayAll e names rows below file → after ≡ tableWithin (verdict e file room) before

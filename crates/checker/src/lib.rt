@@ -11,12 +11,10 @@ ghost use Prim.Native.Nat.{_+_, _*_, _/_, _≤_, _<_};
 ghost use lib.ListN.{length};
 ghost use lib.Seq.{sets};
 ghost use Rattle.dirf.specs.Limits.{linesLimit, numbersAnEntry};
-ghost use Rattle.dirf.specs.Edition.{Edition, edition2025};
+ghost use Rattle.dirf.specs.Edition.{edition2025};
 ghost use Rattle.dirf.specs.Check.{entryNumbers, verdict};
-ghost use Rattle.dirf.specs.Theorems.Sound.{Sound};
-ghost use Rattle.layout.specs.LaidOut.{Say, SayBelow};
 ghost use Rattle.checker.specs.Lines.{thirdKind};
-ghost use Rattle.checker.specs.Answers.{answerOf, tableAfter, tableWithin, entryOfCode, putEntry, Tabled};
+ghost use Rattle.checker.specs.Answers.{answerOf, tableAfter, entryOfCode, putEntry, Tabled, Answers, Leaves};
 
 // Document 01: "The table has four 32-bit numbers a record".
 pub const NUMBERS_AN_ENTRY: usize = 4;
@@ -72,10 +70,9 @@ fn third_kind(names: &[u8; NAME_BYTES], file: &[u8]) -> u32
 // Line by line, with tables that say an edition; entries go to the table where it holds them whole.
 fn walk(names: &[u8; NAME_BYTES], rows: &[u8; ROW_BYTES], below: &[[u8; KINDS]; KINDS], file: &[u8], room: usize, table: &mut [u32]) -> Answer
     requires { ⌜ Tabled (now names) (now rows) (now below) (now file) ⌝ }
-    ensures { λ r. ⌜ (e : Edition) → Sound e → Say e (now (names .entry)) (now (rows .entry))
-        → SayBelow e (thirdKind (now (names .entry)) (now (file .entry))) (now (below .entry))
-        → (r ≡ answerOf (verdict e (now (file .entry)) room))
-        × (now (table .exit) ≡ tableWithin (verdict e (now (file .entry)) room) (now (table .entry))) ⌝ }
+    ensures answer { λ r. ⌜ Answers (now (names .entry)) (now (rows .entry)) (now (below .entry)) (now (file .entry)) room r ⌝ }
+    ensures entries { λ r. ⌜ Leaves (now (names .entry)) (now (rows .entry)) (now (below .entry)) (now (file .entry)) room
+        (now (table .entry)) (now (table .exit)) ⌝ }
 {
     let mut st = state::start();
     loop {

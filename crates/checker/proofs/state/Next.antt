@@ -55,7 +55,7 @@ module _ (p : Path) (os up : List Open) (is : PathIs p os) (stack : Stack p up) 
       d : ℕ
       d = length up
 
-      abbrev opens : Path
+      opens : Path
       opens = record { depth = d + 1; lines = set (p .lines) d n; kinds = set (p .kinds) d k }
 
       go : (t : Bool) → opensNothing k ≡ t

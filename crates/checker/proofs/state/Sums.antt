@@ -176,8 +176,11 @@ module _ (e : Edition) (sound : Sound e) (text : Text) (st : State) (before : Li
   -- 12 asks the same of the state as of the records
   pub stands-same : standsOn st k (heldAt below st k) ≡ mayStand e before k
   unfolding standsOn mayStand belowOn isPlaced opening
-  stands-same = rw (h .count) (go (ltb (length before) 3) refl)
+  stands-same = ap (λ n. if ltb n 3 then isIn k (getD opening n []) else later) (h .count) ∙ go (ltb (length before) 3) refl
     where
+      later : Bool
+      later = eqb k FIMDirf || ltb 0 (heldAt below st k) && orderAt (st .path) k (heldAt below st k)
+
       early : Bool
       early = isIn k (getD opening (length before) [])
 

@@ -1,8 +1,8 @@
 use borrow.Author.Tests.{eq-eqb, le-leb, lt-leb, ne-eqb}
-use Rattle.checker.proofs.Bytewise.{ended}
+use Rattle.checker.proofs.lines.Bytewise.{ended}
 use borrow.Author.Needs.{needs}
-use Rattle.checker.proofs.end_of.Statement.{statement}
-use Rattle.checker.proofs.end_of.Tie as tie
+use Rattle.checker.proofs.lines.end_of.Statement.{statement}
+use Rattle.checker.proofs.lines.end_of.Tie as tie
 
 pub end-of-spec : {M : Type 1} → statement M
 end-of-spec =

@@ -1,7 +1,7 @@
-use Rattle.checker.proofs.Bytewise.{last-none, last-at}
+use Rattle.checker.proofs.lines.Bytewise.{last-none, last-at}
 use borrow.Author.Needs.{needs}
-use Rattle.checker.proofs.ends_in_bar.Statement.{statement}
-use Rattle.checker.proofs.ends_in_bar.Tie as tie
+use Rattle.checker.proofs.lines.ends_in_bar.Statement.{statement}
+use Rattle.checker.proofs.lines.ends_in_bar.Tie as tie
 
 returns : tie.Need-returns
 returns c = last-none 124 (c .before .args .s .now) (c .if1 .taken)

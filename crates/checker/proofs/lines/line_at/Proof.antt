@@ -1,8 +1,8 @@
 use mathlib.Core.Path.{_∙_}
 use borrow.Author.Needs.{needs}
-use Rattle.checker.proofs.Bytewise.{too-long, within}
-use Rattle.checker.proofs.line_at.Statement.{statement}
-use Rattle.checker.proofs.line_at.Tie as tie
+use Rattle.checker.proofs.lines.Bytewise.{too-long, within}
+use Rattle.checker.proofs.lines.line_at.Statement.{statement}
+use Rattle.checker.proofs.lines.line_at.Tie as tie
 
 returns : tie.Need-returns
 returns c = too-long (c .before .before .before .args .s .now) (c .before .clean-len .ensures) (c .if1 .taken)

@@ -4,8 +4,8 @@ use lib.ListN.{length, drop, length-drop}
 use lib.Seq.{take-all}
 use borrow.Author.Needs.{needs}
 use Rattle.fields.specs.Places.{partOf}
-use Rattle.checker.proofs.tail.Statement.{statement}
-use Rattle.checker.proofs.tail.Tie as tie
+use Rattle.checker.proofs.lines.tail.Statement.{statement}
+use Rattle.checker.proofs.lines.tail.Tie as tie
 
 returns : tie.Need-returns
 unfolding partOf

@@ -1,7 +1,7 @@
 use borrow.Author.Needs.{needs}
-use Rattle.checker.proofs.Bytewise.{above-none, above-at}
-use Rattle.checker.proofs.above.Statement.{statement}
-use Rattle.checker.proofs.above.Tie as tie
+use Rattle.checker.proofs.state.Tests.{above-none, above-at}
+use Rattle.checker.proofs.state.above.Statement.{statement}
+use Rattle.checker.proofs.state.above.Tie as tie
 
 returns : tie.Need-returns
 returns c = above-none _ _ (c .if1 .taken)

@@ -1,7 +1,7 @@
 use borrow.Author.Tests.{eq-eqb, ne-eqb}
 use Rattle.checker.specs.State.{declarantOf}
-use Rattle.checker.proofs.declarant_of.Statement.{statement}
-use Rattle.checker.proofs.declarant_of.Tie as tie
+use Rattle.checker.proofs.state.declarant_of.Statement.{statement}
+use Rattle.checker.proofs.state.declarant_of.Tie as tie
 
 pub declarant-of-spec : {M : Type 1} → statement M
 unfolding declarantOf

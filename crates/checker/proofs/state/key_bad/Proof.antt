@@ -1,8 +1,8 @@
-use Rattle.checker.proofs.Bytewise.{no-key, some-key}
+use Rattle.checker.proofs.state.Tests.{no-key, some-key}
 use Rattle.checker.specs.State.{keyOn}
 use borrow.Author.Needs.{needs}
-use Rattle.checker.proofs.key_bad.Statement.{statement}
-use Rattle.checker.proofs.key_bad.Tie as tie
+use Rattle.checker.proofs.state.key_bad.Statement.{statement}
+use Rattle.checker.proofs.state.key_bad.Tie as tie
 
 pub key-bad-spec : {M : Type 1} → statement M
 unfolding keyOn

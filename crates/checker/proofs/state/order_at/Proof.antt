@@ -1,8 +1,8 @@
 use borrow.Author.Tests.{le-ltb, lt-ltb}
 use borrow.Author.Needs.{needs}
 use Rattle.checker.specs.State.{orderAt}
-use Rattle.checker.proofs.order_at.Statement.{statement}
-use Rattle.checker.proofs.order_at.Tie as tie
+use Rattle.checker.proofs.state.order_at.Statement.{statement}
+use Rattle.checker.proofs.state.order_at.Tie as tie
 
 pub order-at-spec : {M : Type 1} → statement M
 unfolding orderAt

@@ -1,10 +1,10 @@
 use Prim.Native.Nat.{ℕ}
 use mathlib.Core.Path.{_≡_, _∙_}
 use native.Mathlib.Omega.{arith}
-use Rattle.checker.proofs.Lookups.{first-line, second-line, third-line, later-line, is-declarant, no-declarant}
+use Rattle.checker.proofs.state.Tests.{first-line, second-line, third-line, later-line, is-declarant, no-declarant}
 use borrow.Author.Needs.{needs}
-use Rattle.checker.proofs.stands.Statement.{statement}
-use Rattle.checker.proofs.stands.Tie as tie
+use Rattle.checker.proofs.state.stands.Statement.{statement}
+use Rattle.checker.proofs.state.stands.Tie as tie
 
 returns : tie.Need-returns
 returns c = let a = c .before .args in first-line (a .st) (a .k) (a .d) (c .match .keys1)

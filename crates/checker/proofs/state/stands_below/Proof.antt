@@ -1,8 +1,8 @@
 use borrow.Author.Tests.{eq-eqb, ne-eqb, le-ltb, lt-ltb}
 use borrow.Author.Needs.{needs}
 use Rattle.checker.specs.State.{belowOn}
-use Rattle.checker.proofs.stands_below.Statement.{statement}
-use Rattle.checker.proofs.stands_below.Tie as tie
+use Rattle.checker.proofs.state.stands_below.Statement.{statement}
+use Rattle.checker.proofs.state.stands_below.Tie as tie
 
 pub stands-below-spec : {M : Type 1} → statement M
 unfolding belowOn

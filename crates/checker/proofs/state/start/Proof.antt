@@ -1,7 +1,7 @@
 use mathlib.Core.Path.{refl}
 use Rattle.checker.specs.State.{startState}
-use Rattle.checker.proofs.start.Statement.{statement}
-use Rattle.checker.proofs.start.Tie as tie
+use Rattle.checker.proofs.state.start.Statement.{statement}
+use Rattle.checker.proofs.state.start.Tie as tie
 
 returns : tie.Need-returns
 unfolding startState

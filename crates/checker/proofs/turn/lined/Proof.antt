@@ -1,9 +1,9 @@
-use Rattle.checker.proofs.Lookups.{line-fits}
+use Rattle.checker.proofs.state.Tests.{line-fits}
 use borrow.Author.Tests.{eq-eqb, ne-eqb}
 use Rattle.checker.specs.Turn.{lineStep}
 use borrow.Author.Needs.{needs}
-use Rattle.checker.proofs.lined.Statement.{statement}
-use Rattle.checker.proofs.lined.Tie as tie
+use Rattle.checker.proofs.turn.lined.Statement.{statement}
+use Rattle.checker.proofs.turn.lined.Tie as tie
 
 recorded-requires : tie.Need-recorded-requires
 recorded-requires c κs =

@@ -1,7 +1,7 @@
 use Rattle.checker.specs.Turn.{placeStep}
 use borrow.Author.Needs.{needs}
-use Rattle.checker.proofs.placed.Statement.{statement}
-use Rattle.checker.proofs.placed.Tie as tie
+use Rattle.checker.proofs.turn.placed.Statement.{statement}
+use Rattle.checker.proofs.turn.placed.Tie as tie
 
 pub placed-spec : {M : Type 1} → statement M
 unfolding placeStep

@@ -1,6 +1,6 @@
 use mathlib.Core.Path.{refl}
-use Rattle.checker.proofs.stop.Statement.{statement}
-use Rattle.checker.proofs.stop.Tie as tie
+use Rattle.checker.proofs.turn.stop.Statement.{statement}
+use Rattle.checker.proofs.turn.stop.Tie as tie
 
 pub stop-spec : {M : Type 1} → statement M
 stop-spec = tie.close (tie.spec (λ c. refl))

@@ -1,8 +1,8 @@
 use borrow.Author.Tests.{le-leb, lt-leb}
 use Rattle.checker.specs.Turn.{turnOf}
 use borrow.Author.Needs.{needs}
-use Rattle.checker.proofs.turn.Statement.{statement}
-use Rattle.checker.proofs.turn.Tie as tie
+use Rattle.checker.proofs.turn.turn.Statement.{statement}
+use Rattle.checker.proofs.turn.turn.Tie as tie
 
 pub turn-spec : {M : Type 1} → statement M
 unfolding turnOf
