@@ -1,6 +1,6 @@
 -- What callers need of what is found in a record's fields.
 use Prim.Native.Nat.{ℕ}
-use mathlib.Core.Path.{_≡_, refl, ap}
+use mathlib.Core.Path.{_≡_, refl, ap, _∙_}
 use mathlib.Core.Logic.{_≢_}
 use mathlib.Core.List.{List}
 use lib.Dec.{ltb}
@@ -11,9 +11,10 @@ use Rattle.dirf.specs.Conditions.{conditionOrder}
 use Rattle.dirf.specs.Rules.{Found, keeps, breaks, orElse, askFields, askConditions, ask, first}
 use Rattle.dirf.specs.Order.{contents}
 use Rattle.dirf.proofs.Asked.{first-passes, nothing-found}
+use Rattle.rules.specs.declared.Finding.{Finding}
 use Rattle.rules.specs.Findings.{findingOf, contentsFound}
 
-or-keeps : (x : Found) → orElse x keeps ≡ x
+pub or-keeps : (x : Found) → orElse x keeps ≡ x
 unfolding orElse
 or-keeps keeps = refl
 or-keeps (breaks n f) = refl
@@ -34,3 +35,7 @@ pub finding-breaks : (x : Found) → findingOf x .number ≢ 0 → x ≡ breaks 
 unfolding findingOf
 finding-breaks keeps h = absurd (h refl)
 finding-breaks (breaks number field) h = refl
+
+-- of an answer that has a number
+pub finding-says : (x : Found) {f : Finding} → f ≡ findingOf x → f .number ≢ 0 → x ≡ breaks (f .number) (f .field)
+finding-says x q h = rw q (finding-breaks x (λ z. h (ap (λ f. f .number) q ∙ z)))

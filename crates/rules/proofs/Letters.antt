@@ -19,7 +19,8 @@ use Rattle.layout.proofs.Arms.{within, between, seen}
 
 -- an arm of a `match` on the only byte, below the arm of the letter k
 pub letter : (k : ℕ) (v : Bool) (kss : List (List ℕ)) (lo hi : ℕ)
-    → tab (seen (λ b. letterOf k (b ∷ [])) v kss) lo (hi - lo) ≡ replicate (hi - lo) v → (h b : ℕ) → h ≡ k → (lo ≤ b) × ((b < hi) × NoneOf kss b) → v ≡ letterOf h (b ∷ [])
+    → tab (seen (λ b. letterOf k (b ∷ [])) v kss) lo (hi - lo) ≡ replicate (hi - lo) v → (h b : ℕ) → h ≡ k
+    → (lo ≤ b) × ((b < hi) × NoneOf kss b) → v ≡ letterOf h (b ∷ [])
 letter k v kss lo hi all h b e t = rw e (between (λ b. letterOf k (b ∷ [])) v kss lo hi all t)
 
 -- a value of one byte is the field exactly when it is its only byte

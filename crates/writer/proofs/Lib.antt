@@ -1,7 +1,7 @@
 pub mod Digits
-pub mod Sums
+pub mod Lengths
 pub mod Stores
 pub mod Refusals
-pub mod Outcome
+pub mod LineAnswer
 pub mod Determined
 pub mod Back

@@ -10,15 +10,12 @@ ghost use lib.ListN.{length, drop};
 ghost use lib.Seq.{sets};
 ghost use Rattle.dirf.specs.Limits.{bar, largest};
 ghost use Rattle.dirf.specs.Numbers.{decimal};
-ghost use Rattle.dirf.specs.Edition.{edition2025, nameOf, rowsOf};
-ghost use Rattle.dirf.specs.Rules.{first};
+ghost use Rattle.dirf.specs.Edition.{edition2025};
 ghost use Rattle.dirf.specs.Written.{outputAfter};
 ghost use Rattle.dirf.specs.Amounts.{writeNumber, writeAmount, writeMonths};
-ghost use Rattle.dirf.specs.LineWriter.{sum, cut, lineOf, writing, writerOrder, writeLine};
-ghost use Rattle.fields.specs.Places.{cellsAt, placesAlong};
-ghost use Rattle.layout.specs.Tables.{rowTable};
-ghost use Rattle.rules.specs.Findings.{numberOf, findingOf, contentsFound};
-ghost use Rattle.writer.specs.Answers.{numberWritten, lineWritten, misfitOf};
+ghost use Rattle.dirf.specs.LineWriter.{sum, cut, lineOf, writeLine};
+ghost use Rattle.rules.specs.Findings.{findingOf};
+ghost use Rattle.writer.specs.Answers.{numberWritten, lineWritten, misfitOf, contentsAlong, refusalOf};
 
 // A number, 0 where it was written, and the count of bytes written.
 pub struct NumberWritten {
@@ -63,7 +60,8 @@ fn put_digits(v: u64, n: usize, out: &mut [u8])
 // A number of at most `size` digits, the largest of which is `limit`.
 fn write_number(v: u64, size: usize, limit: u64, out: &mut [u8]) -> NumberWritten
     requires { ⌜ (limit ≡ largest size) × (size ≤ 20) ⌝ }
-    ensures { λ r. ⌜ (r ≡ numberWritten (writeNumber size v (length (now (out .entry))))) × (now (out .exit) ≡ outputAfter (writeNumber size v (length (now (out .entry)))) (now (out .entry))) ⌝ }
+    ensures { λ r. ⌜ (r ≡ numberWritten (writeNumber size v (length (now (out .entry)))))
+        × (now (out .exit) ≡ outputAfter (writeNumber size v (length (now (out .entry)))) (now (out .entry))) ⌝ }
 {
     if limit < v {
         return NumberWritten {
@@ -87,14 +85,16 @@ fn write_number(v: u64, size: usize, limit: u64, out: &mut [u8]) -> NumberWritte
 
 // An amount: 15 over the limit, then 24 for too little room; zero writes no byte.
 pub fn write_amount(v: Centavos, out: &mut [u8]) -> NumberWritten
-    ensures { λ r. ⌜ (r ≡ numberWritten (writeAmount (v .0) (length (now (out .entry))))) × (now (out .exit) ≡ outputAfter (writeAmount (v .0) (length (now (out .entry)))) (now (out .entry))) ⌝ }
+    ensures { λ r. ⌜ (r ≡ numberWritten (writeAmount (v .0) (length (now (out .entry)))))
+        × (now (out .exit) ≡ outputAfter (writeAmount (v .0) (length (now (out .entry)))) (now (out .entry))) ⌝ }
 {
     write_number(v.0, 13, 9999999999999, out)
 }
 
 // A month count: 15 over the limit, then 24 for too little room; zero writes no byte.
 pub fn write_months(v: MonthTenths, out: &mut [u8]) -> NumberWritten
-    ensures { λ r. ⌜ (r ≡ numberWritten (writeMonths (v .0) (length (now (out .entry))))) × (now (out .exit) ≡ outputAfter (writeMonths (v .0) (length (now (out .entry)))) (now (out .entry))) ⌝ }
+    ensures { λ r. ⌜ (r ≡ numberWritten (writeMonths (v .0) (length (now (out .entry)))))
+        × (now (out .exit) ≡ outputAfter (writeMonths (v .0) (length (now (out .entry)))) (now (out .entry))) ⌝ }
 {
     write_number(v.0, 4, 9999, out)
 }
@@ -118,7 +118,8 @@ fn add_up(lengths: &[usize], total: usize) -> bool
 // A field's bytes and its bar, written at a place of the output; where the next one goes.
 fn put_field(field: &[u8], out: &mut [u8], at: usize) -> usize
     requires { ⌜ at + length (now field) < length (now out) ⌝ }
-    ensures { λ r. ⌜ (r ≡ at + length (now (field .entry)) + 1) × (now (out .exit) ≡ sets (now (out .entry)) at (now (field .entry) ++ (bar ∷ []))) ⌝ }
+    ensures { λ r. ⌜ (r ≡ at + length (now (field .entry)) + 1)
+        × (now (out .exit) ≡ sets (now (out .entry)) at (now (field .entry) ++ (bar ∷ []))) ⌝ }
 {
     let mut i = 0;
     while i < field.len() {
@@ -132,7 +133,8 @@ fn put_field(field: &[u8], out: &mut [u8], at: usize) -> usize
 // The line with its CR LF, into an output that has the room.
 fn put_line(contents: &[u8], lengths: &[usize], out: &mut [u8]) -> usize
     requires { ⌜ (sum (now lengths) ≡ length (now contents)) × (length (lineOf (cut (now lengths) (now contents))) ≤ length (now out)) ⌝ }
-    ensures { λ r. ⌜ (r ≡ length (lineOf (cut (now (lengths .entry)) (now (contents .entry))))) × (now (out .exit) ≡ sets (now (out .entry)) 0 (lineOf (cut (now (lengths .entry)) (now (contents .entry))))) ⌝ }
+    ensures { λ r. ⌜ (r ≡ length (lineOf (cut (now (lengths .entry)) (now (contents .entry)))))
+        × (now (out .exit) ≡ sets (now (out .entry)) 0 (lineOf (cut (now (lengths .entry)) (now (contents .entry))))) ⌝ }
 {
     let mut from = 0;
     let mut at = 0;
@@ -149,11 +151,16 @@ fn put_line(contents: &[u8], lengths: &[usize], out: &mut [u8]) -> usize
 }
 
 // 22, 11 or 23, in that order; 0 where none is given.
-fn misfit(rows: &[u8; 5624], kind: u32, contents: &[u8], lengths: &[usize]) -> u32
-    requires { ⌜ now rows ≡ rowTable ⌝ }
-    ensures { λ r. ⌜ r ≡ numberOf (misfitOf kind (now (contents .entry)) (now (lengths .entry))) ⌝ }
+fn misfit(
+    names: &[u8; layout::NAME_BYTES],
+    rows: &[u8; layout::ROW_BYTES],
+    kind: u32,
+    contents: &[u8],
+    lengths: &[usize],
+) -> u32
+    ensures { λ r. ⌜ r ≡ misfitOf (now (names .entry)) (now (rows .entry)) kind (now (contents .entry)) (now (lengths .entry)) ⌝ }
 {
-    if !layout::is_base(kind) {
+    if !layout::is_base(names, kind) {
         return 22;
     }
     if lengths.len() != layout::field_count(rows, kind) {
@@ -166,13 +173,18 @@ fn misfit(rows: &[u8; 5624], kind: u32, contents: &[u8], lengths: &[usize]) -> u
 }
 
 // 13 to 18 by field, then 19, of what stands along the lengths.
-fn contents_refused(rows: &[u8; 5624], kind: u32, contents: &[u8], lengths: &[usize]) -> Finding
-    requires { ⌜ now rows ≡ rowTable ⌝ }
-    ensures { λ r. ⌜ r ≡ findingOf (contentsFound kind (nameOf edition2025 kind) (rowsOf edition2025 kind) (cellsAt (now (contents .entry)) (placesAlong (now (lengths .entry))))) ⌝ }
+fn contents_refused(
+    names: &[u8; layout::NAME_BYTES],
+    rows: &[u8; layout::ROW_BYTES],
+    kind: u32,
+    contents: &[u8],
+    lengths: &[usize],
+) -> Finding
+    ensures { λ r. ⌜ r ≡ findingOf
+        (contentsAlong (now (names .entry)) (now (rows .entry)) kind (now (contents .entry)) (now (lengths .entry))) ⌝ }
 {
-    let names = layout::name_table();
     let p = fields::places_along(lengths);
-    rules::contents_found(contents, p, layout::name(&names, kind), rows, kind)
+    rules::contents_found(contents, p, layout::name(names, kind), rows, kind)
 }
 
 // 24: no room for the contents, a bar a field and CR LF.
@@ -190,18 +202,25 @@ fn too_small(bytes: usize, count: usize, room: usize) -> bool
 }
 
 // The first refusal: 22, 11, 23, 13 to 18 by field, 19, 24; its number is 0 where there is none.
-fn refusal(kind: u32, contents: &[u8], lengths: &[usize], room: usize) -> Finding
-    ensures { λ r. ⌜ r ≡ findingOf (first writerOrder (writing edition2025 kind (now (contents .entry)) (now (lengths .entry)) room)) ⌝ }
+fn refusal(
+    names: &[u8; layout::NAME_BYTES],
+    rows: &[u8; layout::ROW_BYTES],
+    kind: u32,
+    contents: &[u8],
+    lengths: &[usize],
+    room: usize,
+) -> Finding
+    ensures { λ r. ⌜ r ≡ findingOf
+        (refusalOf (now (names .entry)) (now (rows .entry)) kind (now (contents .entry)) (now (lengths .entry)) room) ⌝ }
 {
-    let rows = layout::row_table();
-    let n = misfit(&rows, kind, contents, lengths);
+    let n = misfit(names, rows, kind, contents, lengths);
     if n != 0 {
         return Finding {
             number: n,
             field: 0,
         };
     }
-    let f = contents_refused(&rows, kind, contents, lengths);
+    let f = contents_refused(names, rows, kind, contents, lengths);
     if f.number != 0 {
         return f;
     }
@@ -216,9 +235,15 @@ fn refusal(kind: u32, contents: &[u8], lengths: &[usize], room: usize) -> Findin
 
 // The line of a kind and the contents of its fields, one after another with their lengths; or the first refusal.
 pub fn write_line(kind: u32, contents: &[u8], lengths: &[usize], out: &mut [u8]) -> LineWritten
-    ensures { λ r. ⌜ (r ≡ lineWritten (writeLine edition2025 kind (now (contents .entry)) (now (lengths .entry)) (length (now (out .entry))))) × (now (out .exit) ≡ outputAfter (writeLine edition2025 kind (now (contents .entry)) (now (lengths .entry)) (length (now (out .entry)))) (now (out .entry))) ⌝ }
+    ensures { λ r. ⌜ (r
+        ≡ lineWritten (writeLine edition2025 kind (now (contents .entry)) (now (lengths .entry)) (length (now (out .entry)))))
+        × (now (out .exit)
+        ≡ outputAfter (writeLine edition2025 kind (now (contents .entry)) (now (lengths .entry)) (length (now (out .entry))))
+        (now (out .entry))) ⌝ }
 {
-    let r = refusal(kind, contents, lengths, out.len());
+    let names = layout::name_table();
+    let rows = layout::row_table();
+    let r = refusal(&names, &rows, kind, contents, lengths, out.len());
     if r.number != 0 {
         return LineWritten {
             number: r.number,

@@ -5,7 +5,7 @@ use native.Mathlib.Omega.{arith}
 use lib.Dec.{eqb}
 use lib.ListN.{length, drop}
 use Rattle.dirf.specs.LineWriter.{sum}
-use Rattle.writer.proofs.Sums.{sum-past, sum-on, sum-end}
+use Rattle.writer.proofs.Lengths.{sum-past, sum-on, sum-end}
 use Rattle.writer.proofs.add_up.Statement.{statement}
 use Rattle.writer.proofs.add_up.Tie as tie
 

@@ -1,56 +1,43 @@
 -- The first three rules, then the contents, then the room.
-use Prim.Native.Nat.{_≤_}
-use native.Mathlib.Omega.{arith}
+use mathlib.Core.Path.{_≡_, sym, ap, _∙_}
 use borrow.Author.Needs.{needs}
-use lib.ListN.{length}
-use Rattle.writer.proofs.Refusals.{asked-misfit, asked-contents, asked-room, asked-nothing}
+use borrow.Author.Tests.{eq-eqb, ne-eqb}
+use Rattle.dirf.specs.Rules.{Found, keeps, given, orElse}
+use Rattle.rules.specs.Findings.{findingOf}
+use Rattle.rules.proofs.Laws.{finding-keeps, finding-says}
+use Rattle.writer.specs.Answers.{contentsAlong, refusalOf}
 use Rattle.writer.proofs.refusal.Statement.{statement}
 use Rattle.writer.proofs.refusal.Tie as tie
 
-returns : tie.Need-returns
-returns c =
-    let a = c .before .before .before .before .before .before .args in
-    asked-misfit (a .kind) (a .contents .now) (a .lengths .now) (a .room) (c .before .misfit .ensures) (c .if1 .taken)
+-- what is found in the contents
+abbrev found : tie.Else1 → Found
+found c =
+    let a = c .before .before .before .before .args in
+    contentsAlong (a .names .now) (a .rows .now) (a .kind) (a .contents .now) (a .lengths .now)
 
-returns-2 : tie.Need-returns-2
-returns-2 c =
-    let s = c .before .before in
-    let b = s .before .before .before .before .before .before .before .before in
-    let a = b .args in
-    let h : length (a .contents .now) ≤ 18446744073709551615 = omega (arith, b .good) in
-    let e = s .before .before .before .misfit .ensures in
-    asked-contents (a .kind) (a .contents .now) (a .lengths .now) (a .room) h e (s .before .before .if1 .left) (s .contents-refused .ensures)
-    (c .if2 .taken)
-
-returns-3 : tie.Need-returns-3
-returns-3 c =
-    let s = c .before .before .before .before in
-    let b = s .before .before .before .before .before .before .before .before in
-    let a = b .args in
-    let h : length (a .contents .now) ≤ 18446744073709551615 = omega (arith, b .good) in
-    let e = s .before .before .before .misfit .ensures in
-    asked-room (a .kind) (a .contents .now) (a .lengths .now) (a .room) h e (s .before .before .if1 .left) (s .contents-refused .ensures)
-    (c .before .before .if2 .left) (c .before .too-small .ensures) (c .if3 .taken)
-
-returns-4 : tie.Need-returns-4
-returns-4 c =
-    let s = c .before .before .before .before in
-    let b = s .before .before .before .before .before .before .before .before in
-    let a = b .args in
-    let h : length (a .contents .now) ≤ 18446744073709551615 = omega (arith, b .good) in
-    let e = s .before .before .before .misfit .ensures in
-    asked-nothing (a .kind) (a .contents .now) (a .lengths .now) (a .room) h e (s .before .before .if1 .left) (s .contents-refused .ensures)
-    (c .before .before .if2 .left) (c .before .too-small .ensures) (c .if3 .left)
+kept : (c : tie.Else2) → found (c .before .before .before) ≡ keeps
+unfolding contentsAlong
+kept c = finding-keeps _ _ _ _ (sym (ap (λ f. f .number) (c .before .before .contents-refused .ensures)) ∙ c .if2 .left)
 
 pub refusal-spec : {M : Type 1} → statement M
+unfolding refusalOf given orElse findingOf
 refusal-spec =
     tie.close
     (tie.spec
     (λ c κs. search needs)
+    (λ c. rw (← c .before .misfit .ensures, ne-eqb _ 0 (c .if1 .taken)))
     (λ c κs. search needs)
-    returns
+    (λ c.
+    let s = c .before .before in
+    let f = finding-says (found (s .before)) (s .contents-refused .ensures) (c .if2 .taken) in
+    rw (← s .before .before .misfit .ensures, eq-eqb _ 0 (s .before .if1 .left), f))
     (λ c κs. search needs)
-    returns-2
-    (λ c κs. search needs)
-    returns-3
-    returns-4)
+    (λ c.
+    let s = c .before .before in
+    let m = s .before .before .before .before .misfit .ensures in
+    rw (← m, eq-eqb _ 0 (s .before .before .before .if1 .left), kept s, ← c .before .too-small .ensures, c .if3 .taken))
+    (λ c.
+    let s = c .before .before in
+    let m = s .before .before .before .before .misfit .ensures in
+    rw (← m, eq-eqb _ 0 (s .before .before .before .if1 .left), kept s, ← c .before .too-small .ensures, c .if3 .left)
+    (s .before .before .contents-refused .ensures ∙ ap findingOf (kept s))))

@@ -3,7 +3,7 @@ use Prim.Native.Nat.{_+_}
 use mathlib.Core.Path.{sym}
 use native.Mathlib.Omega.{arith}
 use borrow.Author.Tests.{lt-ltb}
-use Rattle.writer.proofs.Sums.{room-left}
+use Rattle.writer.proofs.Lengths.{room-left}
 use Rattle.writer.proofs.too_small.Statement.{statement}
 use Rattle.writer.proofs.too_small.Tie as tie
 

@@ -1,41 +1,65 @@
 -- The first refusal; where there is none, the line.
-use mathlib.Core.Path.{refl, _∙_}
+use Prim.Native.Nat.{_≤_}
+use mathlib.Core.Path.{_≡_, refl, ap, _∙_}
+use native.Mathlib.Omega.{arith}
 use borrow.Author.Needs.{needs}
 use lib.ListN.{length}
+use Rattle.dirf.specs.Edition.{edition2025}
+use Rattle.dirf.specs.Rules.{first}
+use Rattle.dirf.specs.LineWriter.{writing, writerOrder}
 use Rattle.dirf.specs.Written.{writes, outputAfter}
+use Rattle.layout.specs.LaidOut.{Say}
+use Rattle.layout.proofs.Laws.{says}
+use Rattle.layout.proofs.Edition2025.{laidOut2025}
+use Rattle.rules.specs.Findings.{findingOf}
 use Rattle.writer.specs.Answers.{lineWritten}
-use Rattle.writer.proofs.Outcome.{line-refused, line-written, added-up, has-room, line-stored}
+use Rattle.writer.proofs.Refusals.{by-tables}
+use Rattle.writer.proofs.LineAnswer.{line-refused, line-written, added-up, has-room, line-stored}
 use Rattle.writer.proofs.write_line.Statement.{statement}
 use Rattle.writer.proofs.write_line.Tie as tie
 
+-- the two tables say the edition of 2025
+asked : (c : tie.After-refusal) → let a = c .before .before .before .before .before .before .before .before .args in
+    c .refusal .result ≡ findingOf (first writerOrder (writing edition2025 (a .kind) (a .contents .now) (a .lengths .now) (length (a .out .now))))
+asked c =
+    let s = c .before .before .before .before .before .before .before .before in
+    let small : length (s .args .contents .now) ≤ 18446744073709551615 = omega (arith, s .good) in
+    let t = c .before .before .before in
+    let say : Say edition2025 (t .before .name-table .result) (t .row-table .result) =
+    rw (t .before .name-table .ensures, t .row-table .ensures) (says edition2025 laidOut2025) in
+    c .refusal .ensures ∙ ap findingOf (by-tables say (s .args .kind) (s .args .contents .now) (s .args .lengths .now) _ small)
+
 put-line-requires : tie.Need-put-line-requires
 put-line-requires c κs =
-    let a = c .before .before .before .before .before .before .before .args in
-    let q = c .before .before .before .refusal .ensures in
+    let q = asked (c .before .before .before) in
     let none = c .before .if1 .left in
-    let room = length (a .out .now) in
-    (added-up (a .kind) (a .contents .now) (a .lengths .now) room q none, has-room (a .kind) (a .contents .now) (a .lengths .now) room q none)
+    (added-up edition2025 _ _ _ _ q none, has-room edition2025 _ _ _ _ q none)
 
 returns-2 : tie.Need-returns-2
 unfolding writes outputAfter lineWritten
 returns-2 c =
     let s = c .before .before .before .before in
-    let a = s .before .before .before .before .before .before .args in
-    let q = s .before .before .refusal .ensures in
+    let a = s .before .before .before .before .before .before .before .before .before .before .args in
+    let q = asked (s .before .before) in
     let p = c .before .before .put-line .ensures in
-    let room = length (a .out .now) in
-    let w = line-written (a .kind) (a .contents .now) (a .lengths .now) room q (s .if1 .left) in
-    let l = line-stored (a .kind) (a .contents .now) (a .lengths .now) room q (s .if1 .left) (a .out .now) refl in
+    let w = line-written edition2025 _ _ _ _ q (s .if1 .left) in
+    let l = line-stored edition2025 _ _ _ _ q (s .if1 .left) (a .out .now) refl in
     (rw (w, p .0), rw w (p .1 ∙ l))
 
 returns : tie.Need-returns
 unfolding writes outputAfter lineWritten
 returns c =
-    let a = c .before .before .before .before .before .before .args in
-    let q = c .before .before .refusal .ensures in
-    let w = line-refused (a .kind) (a .contents .now) (a .lengths .now) (length (a .out .now)) q (c .if1 .taken) in
+    let w = line-refused edition2025 _ _ _ _ (asked (c .before .before)) (c .if1 .taken) in
     (rw w, rw w)
 
 pub write-line-spec : {M : Type 1} → statement M
 write-line-spec =
-    tie.close (tie.spec (λ c κs. search needs) returns put-line-requires (λ c. search needs) returns-2)
+    tie.close
+    (tie.spec
+    (λ c κs. search needs)
+    (λ c κs. search needs)
+    (λ c κs. search needs)
+    returns
+    put-line-requires
+    (λ c. search needs)
+    returns-2)

@@ -1,15 +1,16 @@
--- A list of lengths added up against a total, one at a time.
+-- Lengths: added up against a total one at a time, and how many fields and bytes a line of them has.
 use Prim.Native.Nat.{ℕ, suc, _+_, _-_, _≤_, _<_}
-use mathlib.Core.Path.{_≡_, refl, sym}
+use mathlib.Core.Path.{_≡_, refl, sym, ap}
 use mathlib.Core.Bool.{Bool, true, false}
-use mathlib.Core.List.{List}
+use mathlib.Core.List.{List, [], _∷_}
 use native.Mathlib.Numerals.{add-one}
 use native.Mathlib.Omega.{arith}
 use lib.Dec.{eqb, ltb}
-use lib.ListN.{length, getD, drop, drop-of-length-le}
-use lib.Seq.{drop-cons}
+use lib.ListN.{length, getD, drop, drop-of-length-le, length-append, length-drop}
+use lib.Seq.{drop-cons, length-take-le}
 use borrow.Author.Tests.{eq-eqb, ne-eqb, lt-ltb, le-ltb, eqb-true, eqb-false, ltb-true, ltb-false}
-use Rattle.dirf.specs.LineWriter.{sum}
+use Rattle.dirf.specs.Bytes.{Text}
+use Rattle.dirf.specs.LineWriter.{cut, sum, joined, lineOf}
 
 same-test : (a b c d : ℕ) → (a ≡ b → c ≡ d) → (c ≡ d → a ≡ b) → eqb a b ≡ eqb c d
 same-test a b c d f g = go (eqb c d) refl
@@ -41,3 +42,20 @@ room-left room bytes count h k = go (ltb (room - bytes - 2) count) refl
     go : (t : Bool) → ltb (room - bytes - 2) count ≡ t → t ≡ ltb room (bytes + count + 2)
     go true e = sym (lt-ltb room (bytes + count + 2) (omega (arith, ltb-true (room - bytes - 2) count e)))
     go false e = sym (le-ltb room (bytes + count + 2) (omega (arith, ltb-false (room - bytes - 2) count e)))
+
+pub cut-length : (ns : List ℕ) (text : Text) → length (cut ns text) ≡ length ns
+unfolding cut
+cut-length [] text = refl
+cut-length (n ∷ ns) text = ap suc (cut-length ns (drop n text))
+
+-- as many bytes as the contents have, a bar for each field, CR and LF
+joined-length : (ns : List ℕ) (text : Text) → sum ns ≤ length text → length (joined (cut ns text)) ≡ sum ns + length ns
+unfolding sum cut joined
+joined-length [] text h = refl
+joined-length (n ∷ ns) text h =
+    rw (length-append, length-take-le n text (omega arith))
+    (omega (arith, joined-length ns (drop n text) (rw length-drop (omega arith))))
+
+pub line-length : (ns : List ℕ) (text : Text) → sum ns ≡ length text → length (lineOf (cut ns text)) ≡ length text + length ns + 2
+unfolding lineOf
+line-length ns text e = rw length-append (omega (arith, joined-length ns text (omega arith)))
