@@ -1,87 +1,73 @@
--- The invariant of the check's loop: the state, and the table with the entries of the lines before and else as it was.
-use Prim.Native.Nat.{ℕ, _+_, _-_, _*_, _/_, _≤_, _<_}
+-- The invariant of the loop: the state, and the table with those entries of the lines before that it holds whole.
+use Prim.Native.Nat.{ℕ, suc, _+_, _-_, _/_, _≤_, _<_}
 use mathlib.Core.Path.{_≡_, refl, sym, ap, ap₂, _∙_, subst}
 use mathlib.Core.Bool.{true, false}
 use mathlib.Core.List.{List, [], _∷_, _++_}
 use native.Mathlib.Omega.{arith}
-use lib.ListN.{length, take, drop, length-set, take-append-drop}
-use lib.Seq.{length-take-le}
+use lib.ListN.{length, take}
+use lib.Seq.{take-nil, take-all}
 use Rattle.dirf.specs.Bytes.{Text}
-use Rattle.dirf.specs.Limits.{numbersAnEntry}
-use Rattle.dirf.specs.Edition.{edition2025}
+use Rattle.dirf.specs.Limits.{linesLimit, numbersAnEntry}
+use Rattle.dirf.specs.Edition.{Edition}
 use Rattle.dirf.specs.Tree.{Rec}
-use Rattle.dirf.specs.Check.{tableOf, numbersOf, entryOf, verdict}
-use Rattle.checker.specs.State.{startState}
-use Rattle.checker.specs.Turn.{turnOf}
-use Rattle.checker.specs.Answers.{answerOf, tableAfter, entryNumbers, putEntry}
-use Rattle.checker.specs.declared.State.{State}
-use Rattle.checker.specs.declared.Stepped.{Stepped}
-use Rattle.checker.proofs.Reading.{Reading, Step, Goes, reading-start, step}
-use Rattle.checker.proofs.Table.{take-put, drop-put, numbers-next}
+use Rattle.dirf.specs.Check.{Entry, entryOf, entryNumbers, tableOf, numbersOf, Verdict, verdict}
+use Rattle.dirf.proofs.History.{table-length}
+use Rattle.checker.specs.State.{startState, Near}
+use Rattle.checker.specs.Turn.{halt, turnOf}
+use Rattle.checker.specs.Answers.{answerOf, withEntries, tableWithin, entryOfCode, putEntry, SayAll}
+use Rattle.checker.specs.declared.Answer.{Answer}
+use Rattle.checker.specs.declared.state.State.{State}
+use Rattle.checker.specs.declared.turn.Stepped.{Stepped}
+use Rattle.checker.proofs.Reading.{Reading, reading-start, near, Stops, Goes, Step, step}
+use Rattle.checker.proofs.Table.{put-next}
 
--- between two lines, with a room alone
-pub record Between (file : Text) (room : ℕ) (st : State) : Type 0 where
-  pub before : List Rec
-  pub reading : Reading file room st before
+module _ (e : Edition) (names rows : List ℕ) (below : List (List ℕ)) (file : Text) (room : ℕ) (all : SayAll e names rows below file)
+    (first : List ℕ) where
+  abbrev entriesIn : List Rec → List ℕ
+  entriesIn before = withEntries (take (length first / numbersAnEntry) (tableOf before)) first
 
-pub between-start : (file : Text) (room : ℕ) {st : State} → st ≡ startState → Between file room st
-between-start file room {st} e = rw e (record { before = []; reading = reading-start file room })
+  pub record Held (t : List ℕ) (st : State) : Type 0 where
+    pub before : List Rec
+    pub reading : Reading e names rows below file room all st before
+    pub table : t ≡ entriesIn before
 
-module _ {file : Text} {room : ℕ} {st : State} (s : Stepped) (h : Between file room st) (e : s ≡ turnOf file room st) where
-  pub turned : Step file room st (h .before) s
-  turned = subst (Step file room st (h .before)) (sym e) (step file room st (h .before) (h .reading))
+  pub held-start : {st : State} → st ≡ startState → Held first st
+  unfolding tableOf withEntries numbersOf
+  held-start {st} q =
+      rw q (record { before = []; reading = reading-start e names rows below file room all; table = rw (take-nil (length first / numbersAnEntry)) })
 
-  pub answered : s .stop ≡ true → s .answer ≡ answerOf (verdict edition2025 file room)
-  answered d = turned .stops d .answer
+  module _ {t : List ℕ} {st : State} (h : Held t st) where
+    pub held-near : Near st
+    held-near = near e names rows below file room all st (h .before) (h .reading)
 
-  pub fewer : s .stop ≡ false → 65537 - s .next .count < 65537 - st .count
-  fewer d = let g = turned .goes d in omega (arith, g .count, h .reading .few, g .reading .few)
+    -- a turn that stops has the verdict, and the table is left as it is
+    pub answered : (a : Answer) → Stops e names rows below file room all (h .before) a
+        → (a ≡ answerOf (verdict e file room)) × (t ≡ tableWithin (verdict e file room) first)
+    unfolding tableWithin
+    answered a w = (w .answer, h .table ∙ ap (λ es. withEntries (take (length first / numbersAnEntry) es) first) (sym (w .table)))
 
-  pub between-next : s .stop ≡ false → Between file room (s .next)
-  between-next d = let g = turned .goes d in record { before = g .rec ∷ h .before; reading = g .reading }
+    module _ (s : Stepped) (q : s ≡ turnOf names rows below file st) where
+      pub turn-step : Step e names rows below file room all st (h .before) (h .reading) s
+      turn-step = subst (Step e names rows below file room all st (h .before) (h .reading)) (sym q) (step e names rows below file room all st (h .before) (h .reading))
 
--- and with the table that stood there at first
-pub record Held (file : Text) (first : List ℕ) (room : ℕ) (t : List ℕ) (st : State) : Type 0 where
-  pub between : Between file room st
-  pub whole : numbersAnEntry * st .count ≤ length t
-  pub same : length t ≡ length first
-  pub entries : take (numbersAnEntry * st .count) t ≡ numbersOf (tableOf (between .before))
-  pub left : drop (numbersAnEntry * st .count) t ≡ drop (numbersAnEntry * st .count) first
+      module _ (goes : s .stop ≡ false) (fits : st .count < room) where
+        abbrev g : Goes e names rows below file room all st (h .before) s
+        g = turn-step .goes goes fits
 
-pub held-start : (file : Text) (t : List ℕ) (room : ℕ) {st : State} → st ≡ startState → Held file t room t st
-unfolding startState tableOf numbersOf
-held-start file t room {st} e =
-    rw e (record { between = record { before = []; reading = reading-start file room }; whole = omega arith; same = refl; entries = refl; left = refl })
+        pub entry-small : (s .entry .start < 4294967296) × (s .entry .len < 4294967296)
+        entry-small = g .small
 
-module _ {file : Text} {first t : List ℕ} {st : State} (s : Stepped) (h : Held file first (length first / numbersAnEntry) t st)
-    (e : s ≡ turnOf file (length first / numbersAnEntry) st) where
-  pub table-left : s .stop ≡ true → t ≡ tableAfter (verdict edition2025 file (length first / numbersAnEntry)) first
-  unfolding tableAfter
-  table-left d =
-      let r : take (numbersAnEntry * st .count) t ≡ numbersOf (verdict edition2025 file (length first / numbersAnEntry) .table) =
-      h .entries ∙ ap numbersOf (sym (turned s (h .between) e .stops d .table)) in
-      rw (← r, length-take-le (numbersAnEntry * st .count) t (h .whole), ← h .left) (sym (take-append-drop (numbersAnEntry * st .count) t))
+        pub fewer : suc linesLimit - s .next .count < suc linesLimit - st .count
+        fewer = omega (arith, g .count, g .reading .few)
 
-  module _ (d : s .stop ≡ false) where
-    abbrev on : Goes file (length first / numbersAnEntry) st (h .between .before) s
-    on = turned s (h .between) e .goes d
-
-    pub entry-fits : (st .count ≤ 65536)
-        × ((numbersAnEntry * st .count + numbersAnEntry ≤ length t) × ((s .entry .start < 4294967296) × (s .entry .len < 4294967296)))
-    entry-fits =
-        let r : st .count < length first / numbersAnEntry = on .in-room in
-        (h .between .reading .few, (omega (arith, h .same), on .small))
-
-    pub held-next : Held file first (length first / numbersAnEntry) (putEntry t (numbersAnEntry * st .count) (entryNumbers (s .entry))) (s .next)
-    unfolding entryNumbers putEntry entryOf between-next
-    held-next =
-        let i : numbersAnEntry * s .next .count ≡ numbersAnEntry * st .count + numbersAnEntry = omega (arith, on .count) in
-        let w : numbersAnEntry * st .count + numbersAnEntry ≤ length t = entry-fits .1 .0 in
-        record {
-          between = between-next s (h .between) e d;
-          whole = simp length-set (omega arith);
-          same = simp length-set (h .same);
-          entries = rw (i, take-put t first (numbersAnEntry * st .count) (s .entry) w (h .left))
-              (ap₂ (λ x y. x ++ entryNumbers y) (h .entries) (on .entry) ∙ sym (numbers-next (on .rec) (h .between .before)));
-          left = rw i (drop-put t first (numbersAnEntry * st .count) (s .entry) w (h .left));
-        }
+        pub held-next : Held (putEntry t (st .count) (entryNumbers (entryOfCode (s .entry)))) (s .next)
+        unfolding tableOf
+        held-next =
+            record {
+              before = g .rec ∷ h .before;
+              reading = g .reading;
+              table =
+                  ap₂ (λ a n. putEntry a n (entryNumbers (entryOfCode (s .entry)))) (h .table) (h .reading .sums .count ∙ sym (table-length (h .before)))
+                  ∙ ap (λ x. putEntry (entriesIn (h .before)) (length (tableOf (h .before))) (entryNumbers x)) (g .entry)
+                  ∙ put-next first (tableOf (h .before)) (entryOf (g .rec) (h .before));
+            }

@@ -1,43 +1,65 @@
--- One entry of four numbers, written to the table behind those before it.
-use Prim.Native.Nat.{ℕ, suc, _+_, _≤_}
-use mathlib.Core.Path.{_≡_, refl, sym, ap, _∙_}
-use mathlib.Core.List.{List, [], _∷_, _++_}
+-- Entries in front of a table, and one more behind them.
+use Prim.Native.Nat.{ℕ, suc, _+_, _*_, _/_, _≤_, _<_}
+use mathlib.Core.Path.{_≡_, refl, sym, ap, ap₂, _∙_}
+use mathlib.Core.Bool.{Bool, true, false}
+use mathlib.Core.List.{List, [], _∷_, _++_, append-assoc}
 use native.Mathlib.Omega.{arith}
-use lib.ListN.{length, take, drop, length-append}
-use lib.Seq.{sets-eq, take-at, drop-at, drop-drop, length-take-le}
+use lib.Dec.{ltb}
+use lib.ListN.{length, take, drop, length-append, length-drop}
+use lib.Seq.{sets, sets-eq, take-at, drop-at, drop-drop, take-all, take-append-le, length-front, length-take-le}
+use borrow.Author.Tests.{lt-ltb, le-ltb, ltb-true, ltb-false}
+use Rattle.dirf.specs.Bytes.{if_then_else_}
 use Rattle.dirf.specs.Limits.{numbersAnEntry}
-use Rattle.dirf.specs.Tree.{Rec}
-use Rattle.dirf.specs.Check.{Entry, entryOf, tableOf, numbersOf}
-use Rattle.checker.specs.Answers.{entryNumbers, putEntry}
-use Rattle.checker.specs.declared.Entry as code
+use Rattle.dirf.specs.Check.{Entry, entryNumbers, numbersOf}
+use Rattle.checker.specs.Answers.{withEntries, putEntry}
 
-module _ (t before : List ℕ) (i : ℕ) (e : code.Entry) (h : i + numbersAnEntry ≤ length t) (same : drop i t ≡ drop i before) where
-  put-eq : putEntry t i (entryNumbers e) ≡ (take i t ++ entryNumbers e) ++ drop (i + numbersAnEntry) t
-  unfolding entryNumbers putEntry
-  put-eq =
-      let one : i + 1 ≡ suc i = omega arith in
-      let two : i + 2 ≡ suc (suc i) = omega arith in
-      let three : i + 3 ≡ suc (suc (suc i)) = omega arith in
-      rw (one, two, three) (sets-eq (entryNumbers e) t i h)
+pub length-numbers : (es : List Entry) → length (numbersOf es) ≡ numbersAnEntry * length es
+unfolding numbersOf entryNumbers
+length-numbers [] = refl
+length-numbers (x ∷ es) = omega (arith, length-numbers es)
 
-  long : length (take i t ++ entryNumbers e) ≡ i + numbersAnEntry
-  unfolding entryNumbers
-  long = length-append (take i t) (entryNumbers e) ∙ rw (length-take-le i t (omega arith))
+numbers-last : (es : List Entry) (x : Entry) → numbersOf (es ++ (x ∷ [])) ≡ numbersOf es ++ entryNumbers x
+unfolding numbersOf entryNumbers
+numbers-last [] x = refl
+numbers-last (y ∷ es) x = ap (λ l. entryNumbers y ++ l) (numbers-last es x)
 
-  pub take-put : take (i + numbersAnEntry) (putEntry t i (entryNumbers e)) ≡ take i t ++ entryNumbers e
-  take-put = rw put-eq (take-at (take i t ++ entryNumbers e) (drop (i + numbersAnEntry) t) (i + numbersAnEntry) long)
+module _ (t : List ℕ) (es : List Entry) (fits : numbersAnEntry * length es ≤ length t) where
+  with-length : length (withEntries es t) ≡ length t
+  unfolding withEntries
+  with-length = length-front t (numbersOf es) (length (numbersOf es)) (sym (length-take-le (length (numbersOf es)) t (omega (arith, length-numbers es))))
 
-  pub drop-put : drop (i + numbersAnEntry) (putEntry t i (entryNumbers e)) ≡ drop (i + numbersAnEntry) before
-  drop-put =
-      rw put-eq (drop-at (take i t ++ entryNumbers e) (drop (i + numbersAnEntry) t) (i + numbersAnEntry) long)
-      ∙ sym (drop-drop numbersAnEntry i t) ∙ ap (drop numbersAnEntry) same ∙ drop-drop numbersAnEntry i before
+  -- one entry more, where there is room for it
+  put-one : (x : Entry) → length es < length t / numbersAnEntry
+      → putEntry (withEntries es t) (length es) (entryNumbers x) ≡ withEntries (es ++ (x ∷ [])) t
+  unfolding putEntry withEntries entryNumbers
+  put-one x room =
+      let i : ℕ = length (numbersOf es) in
+      let n : i ≡ numbersAnEntry * length es = length-numbers es in
+      let last = numbers-last es x in
+      let long : length (numbersOf es ++ entryNumbers x) ≡ i + numbersAnEntry = length-append (numbersOf es) (entryNumbers x) in
+      rw (with-length, lt-ltb (length es) (length t / numbersAnEntry) room, ← n)
+      (sets-eq (entryNumbers x) (numbersOf es ++ drop i t) i (omega (arith, with-length))
+      ∙ ap₂ (λ a b. a ++ entryNumbers x ++ b) (take-at (numbersOf es) (drop i t) i refl)
+      (sym (drop-drop numbersAnEntry i (numbersOf es ++ drop i t)) ∙ ap (drop numbersAnEntry) (drop-at (numbersOf es) (drop i t) i refl)
+      ∙ drop-drop numbersAnEntry i t)
+      ∙ rw (last, long))
 
-numbers-last : (es : List Entry) (e : Entry) → numbersOf (es ++ (e ∷ [])) ≡ numbersOf es ++ (e .kind ∷ e .start ∷ e .length ∷ e .parent ∷ [])
-unfolding numbersOf
-numbers-last [] e = refl
-numbers-last (x ∷ es) e = ap (λ l. x .kind ∷ x .start ∷ x .length ∷ x .parent ∷ l) (numbers-last es e)
+  put-none : (c : ℕ) (row : List ℕ) → length t / numbersAnEntry ≤ c → putEntry (withEntries es t) c row ≡ withEntries es t
+  unfolding putEntry
+  put-none c row full = rw (with-length, le-ltb c (length t / numbersAnEntry) full)
 
-pub numbers-next : (r : Rec) (rs : List Rec)
-    → numbersOf (tableOf (r ∷ rs)) ≡ numbersOf (tableOf rs) ++ (r .kind ∷ entryOf r rs .start ∷ length (r .line) ∷ r .parent ∷ [])
-unfolding tableOf entryOf
-numbers-next r rs = numbers-last (tableOf rs) (entryOf r rs)
+-- of so many entries, those that a table holds whole
+pub put-next : (t : List ℕ) (es : List Entry) (x : Entry) → let m = length t / numbersAnEntry in
+    putEntry (withEntries (take m es) t) (length es) (entryNumbers x) ≡ withEntries (take m (es ++ (x ∷ []))) t
+put-next t es x = go (ltb (length es) m) refl
+  where
+    m : ℕ
+    m = length t / numbersAnEntry
+
+    go : (b : Bool) → ltb (length es) m ≡ b → putEntry (withEntries (take m es) t) (length es) (entryNumbers x) ≡ withEntries (take m (es ++ (x ∷ []))) t
+    go true b =
+        let l = ltb-true (length es) m b in
+        rw (take-all m es (omega arith), take-all m (es ++ (x ∷ [])) (simp length-append (omega arith))) (put-one t es (omega arith) x l)
+    go false b =
+        let l = ltb-false (length es) m b in
+        rw (take-append-le m es (x ∷ []) l) (put-none t (take m es) (omega (arith, length-take-le m es l)) (length es) (entryNumbers x) l)

@@ -1,0 +1,19 @@
+-- The number of fields, and then their contents.
+use borrow.Author.Needs.{needs}
+use borrow.Author.Tests.{eq-eqb, ne-eqb}
+use Rattle.dirf.specs.Rules.{given, orElse}
+use Rattle.rules.specs.Findings.{findingOf}
+use Rattle.checker.specs.Turn.{filledFound}
+use Rattle.checker.proofs.turn.filled_found.Statement.{statement}
+use Rattle.checker.proofs.turn.filled_found.Tie as tie
+
+pub filled-found-spec : {M : Type 1} → statement M
+unfolding filledFound given orElse findingOf
+filled-found-spec =
+    tie.close
+    (tie.spec
+    (λ c κs. search needs)
+    (λ c. simp (← c .before .before .field-count .ensures, ne-eqb _ _ (c .if1 .taken)))
+    (λ c κs. search needs)
+    (λ c κs. search needs)
+    (λ c. simp (c .contents-found .ensures, c .before .name .ensures .0, ← c .before .before .before .before .field-count .ensures, eq-eqb _ _ (c .before .before .if1 .left))))
