@@ -75,8 +75,8 @@ abbrev pub fieldsFrom : List ℕ → ℕ → Text → List Text → ℕ → Foun
 fieldsFrom t k name cells i = askFields (i + 1) fieldOrder name (drop i (rowsIn t k)) (drop i cells)
 
 -- n is asked of field i + 1: a number is what is found, and 0 leaves it to the next field
-abbrev pub Turned : List ℕ → ℕ → Text → List Text → ℕ → ℕ → Type 0
-Turned t k name cells i n =
+abbrev pub FieldFound : List ℕ → ℕ → Text → List Text → ℕ → ℕ → Type 0
+FieldFound t k name cells i n =
     (n ≢ 0 → fieldsFrom t k name cells i ≡ breaks n (i + 1)) × (n ≡ 0 → fieldsFrom t k name cells i ≡ fieldsFrom t k name cells (i + 1))
 
 -- the codes of its row are asked
@@ -90,9 +90,9 @@ module _ (t : List ℕ) (k : ℕ) (name : Text) (cells : List Text) (i : ℕ) (h
       fields-on fieldOrder name (rowsIn t k) cells i row (omega (arith, rows-length t k)) l
       ∙ rw (rows-at t k i row h, ← row-said t k i h, ask-placed (i + 1) fieldOrder name row (getD cells i []))
 
-  pub turned : {n : ℕ} → n ≡ numberOf (askField 0 fieldOrder name row (getD cells i [])) → Turned t k name cells i n
+  pub field-found : {n : ℕ} → n ≡ numberOf (askField 0 fieldOrder name row (getD cells i [])) → FieldFound t k name cells i n
   unfolding orElse placed
-  turned e = (
+  field-found e = (
     λ z. here ∙ rw (placed-break (i + 1) (askField 0 fieldOrder name row (getD cells i [])) e z),
     λ z. here ∙ rw (nothing name row (getD cells i []) (sym e ∙ z)),
   )

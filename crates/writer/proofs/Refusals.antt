@@ -25,7 +25,8 @@ use Rattle.writer.proofs.Lengths.{cut-length, line-length}
 -- 22, 11 and 23 by what their tests say, and what comes after where none is given
 three : (base counted added : Bool) (x y : Found) → (counted ≡ true → added ≡ true → x ≡ y)
     → let n : ℕ = if not base then 22 else if not counted then 11 else if not added then 23 else 0 in
-    orElse (given n 0 (not (eqb n 0))) x ≡ orElse (given 22 0 (not base)) (orElse (given 11 0 (not counted)) (orElse (given 23 0 (not added)) y))
+    orElse (given n 0 (not (eqb n 0))) x
+    ≡ orElse (given 22 0 (not base)) (orElse (given 11 0 (not counted)) (orElse (given 23 0 (not added)) y))
 unfolding given orElse
 three false c a x y h = refl
 three true false a x y h = refl
@@ -40,7 +41,8 @@ module _ {e : Edition} {names rows : List ℕ} (say : Say e names rows) (k : ℕ
   later = over (λ w. w .contents) contents ++ (gives 24 0 outputTooSmall ∷ [])
 
   later-finds : length ns ≡ length (rowsOf e k) → sum ns ≡ length text
-      → orElse (contentsFound k (nameOf e k) (rowsOf e k) (cellsAt text (placesAlong ns))) (given 24 0 (ltb room (length text + length ns + 2)))
+      → orElse (contentsFound k (nameOf e k) (rowsOf e k) (cellsAt text (placesAlong ns)))
+      (given 24 0 (ltb room (length text + length ns + 2)))
       ≡ first later (writing e k text ns room)
   unfolding first ask contentsFound writing contentsOf outputTooSmall
   later-finds counted added =

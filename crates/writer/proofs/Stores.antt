@@ -59,8 +59,9 @@ module _ (ns : List ℕ) (text : Text) (i from : ℕ) where
   rest-two = rw length-append (omega arith)
 
   -- a field put where the last one ended, up to where the next one goes
-  pub field-put : i < length ns → (put out next : Text) (at to : ℕ) → put ≡ partOf text from (getD ns i 0) → next ≡ sets out at (put ++ (bar ∷ []))
-      → to ≡ at + length put + 1 → sets out at (rest ns text i from) ≡ sets next to (rest ns text (i + 1) (from + getD ns i 0))
+  pub field-put : i < length ns → (put out next : Text) (at to : ℕ) → put ≡ partOf text from (getD ns i 0)
+      → next ≡ sets out at (put ++ (bar ∷ [])) → to ≡ at + length put + 1
+      → sets out at (rest ns text i from) ≡ sets next to (rest ns text (i + 1) (from + getD ns i 0))
   field-put h put out next at to p q e =
       let m : at + length (put ++ (bar ∷ [])) ≡ to = rw length-append (omega arith) in
       let more = rest ns text (i + 1) (from + getD ns i 0) in

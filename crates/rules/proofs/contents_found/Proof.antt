@@ -12,7 +12,7 @@ use Rattle.layout.proofs.Laws.{rows-length}
 use Rattle.fields.specs.Places.{mostFields, cellAt, cellsAt}
 use Rattle.fields.proofs.PlaceLaws.{cell-at, cells-length}
 use Rattle.rules.specs.Findings.{findingOf}
-use Rattle.rules.proofs.Findings.{fields-end, count-most, fieldsFrom, Turned, turned}
+use Rattle.rules.proofs.Findings.{fields-end, count-most, fieldsFrom, FieldFound, field-found}
 use Rattle.rules.proofs.Laws.{in-parts}
 use Rattle.rules.proofs.contents_found.Statement.{statement}
 use Rattle.rules.proofs.contents_found.Tie as tie
@@ -40,15 +40,15 @@ few : (l : tie.At-loop Inv-loop μ-loop) → l .before .field-count .result ≤ 
 few l = rw (l .before .field-count .ensures) (count-most (rows l) (start l .args .k))
 
 -- field i has a row and a cell, and they are asked
-turn : (c : tie.After-field-rule Inv-loop μ-loop) → let l = c .before .before .before .before .before .before .before in
-    Turned (rows l) (start l .args .k) (name l) (cells l) (l .loop .i) (c .field-rule .result)
+found-here : (c : tie.After-field-rule Inv-loop μ-loop) → let l = c .before .before .before .before .before .before .before in
+    FieldFound (rows l) (start l .args .k) (name l) (cells l) (l .loop .i) (c .field-rule .result)
 unfolding cellAt
-turn c =
+found-here c =
     let l = c .before .before .before .before .before .before .before in
     let a = start l .args in
     let h : l .loop .i < min mostFields (a .t2 .count) = omega (arith, few l) in
     let p = c .before .before .part .ensures .0 ∙ sym (cell-at (a .bytes .now) (a .t2) (l .loop .i) [] h) in
-    turned (rows l) (a .k) (name l) (cells l) (l .loop .i) (omega (arith, l .before .field-count .ensures))
+    field-found (rows l) (a .k) (name l) (cells l) (l .loop .i) (omega (arith, l .before .field-count .ensures))
     (omega (arith, cells-length (a .bytes .now) (a .t2))) (c .field-rule .ensures ∙ rw (c .before .row-at .ensures, p))
 
 pub contents-found-spec : {M : Type 1} → statement M
@@ -77,12 +77,12 @@ contents-found-spec =
     (λ c. omega (arith, few (c .before .before .before .before .before .before .before .before)))
     (λ c.
     let l = c .before .before .before .before .before .before .before .before in
-    rw (in-parts, l .loop .inv .1 ∙ turn (c .before) .0 (c .if2 .taken)))
+    rw (in-parts, l .loop .inv .1 ∙ found-here (c .before) .0 (c .if2 .taken)))
     (λ c. omega arith)
     (λ c. omega arith)
     (λ c.
     let l = c .before .before .before .before .before .before .before .before in
-    (omega arith, l .loop .inv .1 ∙ turn (c .before) .1 (c .if2 .left)))
+    (omega arith, l .loop .inv .1 ∙ found-here (c .before) .1 (c .if2 .left)))
     (λ c κs. search needs)
     (λ c.
     let l = c .before .before in

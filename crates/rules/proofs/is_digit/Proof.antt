@@ -3,13 +3,6 @@ use Rattle.dirf.specs.Bytes.{isDigit}
 use Rattle.rules.proofs.is_digit.Statement.{statement}
 use Rattle.rules.proofs.is_digit.Tie as tie
 
-returns : tie.Need-returns
-unfolding isDigit
-returns c = simp (lt-leb _ _ (c .if1 .taken))
-
-returns-2 : tie.Need-returns-2
-unfolding isDigit
-returns-2 c = simp (le-leb _ _ (c .if1 .left))
-
 pub is-digit-spec : {M : Type 1} → statement M
-is-digit-spec = tie.close (tie.spec returns returns-2)
+unfolding isDigit
+is-digit-spec = tie.close (tie.spec (λ c. simp (lt-leb _ _ (c .if1 .taken))) (λ c. simp (le-leb _ _ (c .if1 .left))))

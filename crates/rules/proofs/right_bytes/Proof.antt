@@ -1,5 +1,6 @@
-use Prim.Native.Nat.{_≤_, _-_}
+use Prim.Native.Nat.{ℕ, _≤_, _-_}
 use mathlib.Core.Path.{_≡_, refl, sym, _∙_}
+use mathlib.Core.Bool.{Bool}
 use native.Mathlib.Omega.{arith}
 use borrow.Author.Tests.{not-true, not-false}
 use lib.ListN.{length, drop}
@@ -16,27 +17,8 @@ Inv-loop format s i₀ i = (i ≤ length s) × (every (rightByte (formatOf forma
 abbrev μ-loop : tie.MeasureT-loop
 μ-loop format s i₀ i = length s - i
 
-returns : tie.Need-returns Inv-loop μ-loop
-returns c =
-    let l = c .before .before .before .before in
-    let a = l .before .before .args in
-    sym (l .loop .inv .1 ∙ every-off (rightByte (formatOf (a .format))) (a .s .now) (l .loop .i) (omega arith)
-    (sym (c .before .right-byte .ensures) ∙ not-true _ (c .if1 .taken)))
-
-loop-again : tie.Need-loop-again Inv-loop μ-loop
-loop-again c =
-    let l = c .before .before .before .before in
-    let a = l .before .before .args in (
-      omega arith,
-      l .loop .inv .1 ∙ every-on (rightByte (formatOf (a .format))) (a .s .now) (l .loop .i) (omega arith)
-          (sym (c .before .right-byte .ensures) ∙ not-false _ (c .if1 .left)),
-    )
-
-returns-2 : tie.Need-returns-2 Inv-loop μ-loop
-returns-2 c =
-    let l = c .before in
-    let a = l .before .before .args in
-    sym (l .loop .inv .1 ∙ every-end (rightByte (formatOf (a .format))) (a .s .now) (l .loop .i) (omega arith))
+abbrev right : tie.At-loop Inv-loop μ-loop → ℕ → Bool
+right l = rightByte (formatOf (l .before .before .args .format))
 
 pub right-bytes-spec : {M : Type 1} → statement M
 right-bytes-spec =
@@ -47,8 +29,16 @@ right-bytes-spec =
     (λ c. (omega arith, refl))
     (λ c. omega arith)
     (λ c κs. omega arith)
-    returns
+    (λ c.
+    let l = c .before .before .before .before in
+    let e = sym (c .before .right-byte .ensures) ∙ not-true _ (c .if1 .taken) in
+    sym (l .loop .inv .1 ∙ every-off (right l) (l .before .before .args .s .now) (l .loop .i) (omega arith) e))
     (λ c. omega arith)
     (λ c. omega arith)
-    loop-again
-    returns-2)
+    (λ c.
+    let l = c .before .before .before .before in
+    let e = sym (c .before .right-byte .ensures) ∙ not-false _ (c .if1 .left) in
+    (omega arith, l .loop .inv .1 ∙ every-on (right l) (l .before .before .args .s .now) (l .loop .i) (omega arith) e))
+    (λ c.
+    let l = c .before in
+    sym (l .loop .inv .1 ∙ every-end (right l) (l .before .before .args .s .now) (l .loop .i) (omega arith))))

@@ -13,7 +13,8 @@ use Rattle.writer.proofs.put_field.Tie as tie
 
 abbrev Inv-loop : tie.InvT-loop
 Inv-loop field out₀ at i₀ out i =
-    ((i ≤ length field) × (length out ≡ length out₀)) × (sets out₀ at (field ++ (bar ∷ [])) ≡ sets out (at + i) (drop i field ++ (bar ∷ [])))
+    ((i ≤ length field) × (length out ≡ length out₀))
+    × (sets out₀ at (field ++ (bar ∷ [])) ≡ sets out (at + i) (drop i field ++ (bar ∷ [])))
 
 abbrev μ-loop : tie.MeasureT-loop
 μ-loop field out₀ at i₀ out i = length field - i

@@ -33,7 +33,8 @@ put-field-requires c κs =
     let a = c .before .before .before .before .before .before .before .before .args in
     let h = c .before .before .before .loop-test .taken in
     let n = rest-length (a .lengths .now) (a .contents .now) (l .i) (l .from) h in
-    omega (arith, n, rest-two (a .lengths .now) (a .contents .now) (l .i + 1) (l .from + getD (a .lengths .now) (l .i) 0), ap length (c .before .part .ensures .0))
+    let two = rest-two (a .lengths .now) (a .contents .now) (l .i + 1) (l .from + getD (a .lengths .now) (l .i) 0) in
+    omega (arith, n, two, ap length (c .before .part .ensures .0))
 
 add-from : tie.Need-add-from Inv-loop μ-loop
 add-from c =

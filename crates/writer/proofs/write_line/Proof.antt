@@ -20,7 +20,8 @@ use Rattle.writer.proofs.write_line.Tie as tie
 
 -- the two tables say the edition of 2025
 asked : (c : tie.After-refusal) → let a = c .before .before .before .before .before .before .before .before .args in
-    c .refusal .result ≡ findingOf (first writerOrder (writing edition2025 (a .kind) (a .contents .now) (a .lengths .now) (length (a .out .now))))
+    c .refusal .result
+    ≡ findingOf (first writerOrder (writing edition2025 (a .kind) (a .contents .now) (a .lengths .now) (length (a .out .now))))
 asked c =
     let s = c .before .before .before .before .before .before .before .before in
     let small : length (s .args .contents .now) ≤ 18446744073709551615 = omega (arith, s .good) in
