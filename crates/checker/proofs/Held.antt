@@ -4,7 +4,7 @@ use mathlib.Core.Path.{_≡_, refl, sym, ap, ap₂, _∙_, subst}
 use mathlib.Core.Bool.{true, false}
 use mathlib.Core.List.{List, [], _∷_, _++_}
 use native.Mathlib.Omega.{arith}
-use lib.ListN.{length, take}
+use lib.ListN.{length, take, length-take}
 use lib.Seq.{take-nil, take-all}
 use Rattle.dirf.specs.Bytes.{Text}
 use Rattle.dirf.specs.Limits.{linesLimit, numbersAnEntry}
@@ -19,7 +19,7 @@ use Rattle.checker.specs.declared.Answer.{Answer}
 use Rattle.checker.specs.declared.state.State.{State}
 use Rattle.checker.specs.declared.turn.Stepped.{Stepped}
 use Rattle.checker.proofs.Reading.{Reading, reading-start, near, Stops, Goes, Step, step}
-use Rattle.checker.proofs.Table.{put-next}
+use Rattle.checker.proofs.Table.{with-length, put-next}
 
 module _ (e : Edition) (names rows : List ℕ) (below : List (List ℕ)) (file : Text) (room : ℕ) (all : SayAll e names rows below file)
     (first : List ℕ) where
@@ -39,6 +39,11 @@ module _ (e : Edition) (names rows : List ℕ) (below : List (List ℕ)) (file :
   module _ {t : List ℕ} {st : State} (h : Held t st) where
     pub held-near : Near st
     held-near = near e names rows below file room all st (h .before) (h .reading)
+
+    pub same-length : length t ≡ length first
+    same-length =
+        let m : ℕ = length first / numbersAnEntry in
+        ap length (h .table) ∙ with-length first (take m (tableOf (h .before))) (omega (arith, length-take m (tableOf (h .before))))
 
     -- a turn that stops has the verdict, and the table is left as it is
     pub answered : (a : Answer) → Stops e names rows below file room all (h .before) a

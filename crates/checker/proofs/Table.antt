@@ -24,7 +24,7 @@ numbers-last [] x = refl
 numbers-last (y ∷ es) x = ap (λ l. entryNumbers y ++ l) (numbers-last es x)
 
 module _ (t : List ℕ) (es : List Entry) (fits : numbersAnEntry * length es ≤ length t) where
-  with-length : length (withEntries es t) ≡ length t
+  pub with-length : length (withEntries es t) ≡ length t
   unfolding withEntries
   with-length = length-front t (numbersOf es) (length (numbersOf es)) (sym (length-take-le (length (numbersOf es)) t (omega (arith, length-numbers es))))
 

@@ -11,14 +11,10 @@ use Rattle.dirf.specs.Limits.{numbersAnEntry}
 use Rattle.dirf.specs.Edition.{edition2025}
 use Rattle.dirf.specs.Check.{Entry, numbersOf, Verdict, verdict}
 use Rattle.dirf.proofs.Demands.{demands2025}
-use Rattle.checker.specs.Answers.{answerOf, tableAfter}
+use Rattle.checker.specs.Answers.{answerOf, withEntries, tableAfter}
 use Rattle.checker.specs.Left.{Left}
+use Rattle.checker.proofs.Table.{length-numbers}
 use Rattle.checker.proofs.check.Reads as check
-
-length-numbers : (t : List Entry) → length (numbersOf t) ≡ numbersAnEntry * length t
-unfolding numbersOf
-length-numbers [] = refl
-length-numbers (x ∷ t) = omega (arith, length-numbers t)
 
 -- entries, and behind them what stood there: nothing past them is touched
 past : (front before : List ℕ) (i : ℕ) → length front ≤ i → getD (front ++ drop (length front) before) i 0 ≡ getD before i 0
@@ -30,7 +26,7 @@ past front before i h =
 
 left : (file : Text) (before : List ℕ)
     → let v = verdict edition2025 file (length before / numbersAnEntry) in Left file before (tableAfter v before) (answerOf v)
-unfolding answerOf tableAfter
+unfolding answerOf withEntries tableAfter
 left file before =
     let room : ℕ = length before / numbersAnEntry in
     let v : Verdict = verdict edition2025 file room in

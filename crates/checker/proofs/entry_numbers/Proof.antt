@@ -1,6 +1,7 @@
+-- The numbers in their order.
 use mathlib.Core.Path.{refl}
 use borrow.Author.Needs.{needs}
-use Rattle.checker.specs.Answers.{entryNumbers}
+use Rattle.dirf.specs.Check.{entryNumbers}
 use Rattle.checker.proofs.entry_numbers.Statement.{statement}
 use Rattle.checker.proofs.entry_numbers.Tie as tie
 

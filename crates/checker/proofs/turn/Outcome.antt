@@ -22,7 +22,7 @@ use Rattle.dirf.specs.Check.{bytesOf, recOf}
 use Rattle.dirf.specs.Theorems.Sound.{Sound}
 use Rattle.dirf.proofs.Asked.{given-false, or-else-left, or-else-right}
 use Rattle.dirf.proofs.RulesPut.{or-assoc}
-use Rattle.fields.specs.Places.{mostFields, partOf, placesOf, cellsAt}
+use Rattle.fields.specs.Places.{mostFields, partOf, placesOf, cellAt, cellsAt}
 use Rattle.fields.proofs.PlaceLaws.{places-count, places-cells}
 use Rattle.fields.proofs.Inside.{cell-is}
 use Rattle.layout.specs.Tables.{kinds, namesIn, nameIn, rowsIn, countIn}
@@ -173,7 +173,10 @@ module _ (e : Edition) (sound : Sound e) (names rows : List ℕ) (say : Say e na
 
   fill-is : filledFound names rows line (placesOf line) k ≡ fillRule e before line k
   unfolding filledFound orElse given
-  fill-is = rw (places-count line, count-is say k, say .name k, say .fields k) (go (eqb (length (fields line)) (length (rowsOf e k))) refl)
+  fill-is =
+      ap (λ n. orElse (given 11 0 (not (eqb n (countIn rows k)))) (contentsFound k (nameIn names k) (rowsIn rows k) (cellsAt line (placesOf line))))
+      (places-count line)
+      ∙ rw (count-is say k, say .name k, say .fields k) (go (eqb (length (fields line)) (length (rowsOf e k))) refl)
     where
       asked : List Text → Found
       asked cells = contentsFound k (nameOf e k) (rowsOf e k) cells
@@ -189,14 +192,15 @@ module _ (e : Edition) (sound : Sound e) (names rows : List ℕ) (say : Say e na
     taken : mayStand e before k ≡ true → Took e file (st .at) before r rest (took st r′)
     unfolding stateAfter afterLine
     taken may =
+        let sum : st .at + length line + 2 ≡ st .at + (length line + 2) = omega arith in
         let moved : drop (st .at + length line + 2) file ≡ drop (length line + 2) (drop (st .at) file) =
-        ap (λ x. drop x file) (omega arith) ∙ sym (drop-drop (length line + 2) (st .at) file) in
+        ap (λ x. drop x file) sum ∙ sym (drop-drop (length line + 2) (st .at) file) in
         record {
           going = refl;
           entry = ap₂ (λ x y. record { kind = k; start = x; len = length line; parent = y }) (h .at)
               (parent-same e sound file st before h below say-below k may);
           sums = sums-next e sound file st before h below say-below k small may line there;
-          on = moved ∙ ap (λ x. drop x (drop (st .at) file)) (omega arith) ∙ sym (drop-drop 2 (length line) (drop (st .at) file));
+          on = moved ∙ sym (drop-drop 2 (length line) (drop (st .at) file));
           left = ap pieces moved ∙ sym after;
           line = refl;
           short = short;
@@ -206,11 +210,14 @@ module _ (e : Edition) (sound : Sound e) (names rows : List ℕ) (say : Say e na
         → Outcome e file (st .at) before r rest (lookStep file st r′) (lookRule e before line k)
     unfolding lookStep
     looked may fits =
-        rw (there, parent-same e sound file st before h below say-below k may)
+        let second : Text = cellAt line (placesOf line) 1 in
+        let third : Text = cellAt line (placesOf line) 2 in
+        let same =
+        ap (λ p. lookFound file (st .past) k p second third) (parent-same e sound file st before h below say-below k may)
+        ∙ look-same e sound file st before h k small may second third (fields line) (cell-is line 1 fits) (cell-is line 2 fits) in
+        rw there
         (subst (Outcome e file (st .at) before r rest _) (or-keeps (lookRule e before line k))
-        (found e file st before h r rest _ (lookRule e before line k) (took st r′) keeps
-        (look-same e sound file st before h k small may _ _ (fields line) (cell-is line 1 fits) (cell-is line 2 fits))
-        (λ _. taken may)))
+        (found e file st before h r rest _ (lookRule e before line k) (took st r′) keeps same (λ _. taken may)))
 
     whole-outcome : Outcome e file (st .at) before r rest (barStep names rows below file st (lineAt (drop (st .at) file))) (lateRule e before line k)
     unfolding barStep recordOf placeStep fillStep lineAt

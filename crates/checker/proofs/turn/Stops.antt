@@ -5,12 +5,12 @@ use mathlib.Core.Bool.{Bool, true, false}
 use mathlib.Core.List.{List}
 use native.Mathlib.Omega.{arith}
 use lib.Dec.{ltb}
-use borrow.Author.Tests.{ltb-true}
+use borrow.Author.Tests.{lt-ltb, ltb-true}
 use Rattle.dirf.specs.Bytes.{Text, every}
 use Rattle.dirf.specs.Row.{Row}
 use Rattle.dirf.specs.Fields.{fieldOrder}
 use Rattle.dirf.specs.Conditions.{conditionOrder}
-use Rattle.dirf.specs.Rules.{Found, keeps, breaks, given, orElse, fieldByField, conditions, ask, first}
+use Rattle.dirf.specs.Rules.{Contents, Found, keeps, breaks, given, orElse, fieldByField, conditions, ask, first}
 use Rattle.dirf.proofs.Asked.{Passes, or-else-passes, ask-passes}
 use Rattle.fields.specs.declared.Places.{Places}
 use Rattle.rules.specs.Findings.{findingOf, contentsFound}
@@ -26,7 +26,7 @@ Numbered = Passes (ltb 0)
 
 given-numbered : (n f : ℕ) (t : Bool) → Numbered (given (suc n) f t)
 unfolding given
-given-numbered n f true = refl
+given-numbered n f true = lt-ltb 0 (suc n) (omega arith)
 given-numbered n f false = tt
 
 pub place-numbered : (st : State) (k d : ℕ) → Numbered (placeFound st k d)
@@ -37,7 +37,7 @@ place-numbered st k d =
 contents-numbered : (k : ℕ) (name : Text) (rows : List Row) (cells : List Text) → Numbered (contentsFound k name rows cells)
 unfolding contentsFound first every fieldOrder
 contents-numbered k name rows cells =
-    let c = record { kind = k; name = name; rows = rows; cells = cells } in
+    let c : Contents = record { kind = k; name = name; rows = rows; cells = cells } in
     or-else-passes (ltb 0) (ask (fieldByField fieldOrder (λ c. c)) c) _ (ask-passes (ltb 0) (fieldByField fieldOrder (λ c. c)) c refl)
     (or-else-passes (ltb 0) (ask (conditions 19 conditionOrder (λ c. c)) c) _ (ask-passes (ltb 0) (conditions 19 conditionOrder (λ c. c)) c refl) tt)
 
