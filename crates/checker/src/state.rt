@@ -204,7 +204,14 @@ fn key_bad(text: &[u8], past: Past, k: u32, p: u32, second: &[u8], third: &[u8])
 }
 
 // 21 and 20.
-pub(crate) fn look_found(text: &[u8], past: Past, k: u32, p: u32, second: &[u8], third: &[u8]) -> Finding
+pub(crate) fn look_found(
+    text: &[u8],
+    past: Past,
+    k: u32,
+    p: u32,
+    second: &[u8],
+    third: &[u8],
+) -> Finding
     requires { ⌜ k < kinds ⌝ }
     ensures { λ r. ⌜ r ≡ findingOf (lookFound (now (text .entry)) past k p (now (second .entry)) (now (third .entry))) ⌝ }
 {

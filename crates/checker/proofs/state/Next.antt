@@ -12,14 +12,15 @@ use lib.ListN.{length, getD, set, length-set}
 use lib.Seq.{getD-set-same, getD-set-other}
 use borrow.Author.Tests.{eqb-true, eqb-false, eq-eqb, ne-eqb}
 use Rattle.dirf.specs.Bytes.{if_then_else_, Text}
-use Rattle.dirf.specs.Kinds.{isValue, opensNothing}
+use Rattle.dirf.specs.Kinds.{values, isValue, opensNothing}
 use Rattle.dirf.specs.Edition.{Edition}
 use Rattle.dirf.specs.Tree.{Rec, Open, opened, opening, declarant, from, place, parentOf, mayStand}
 use Rattle.dirf.specs.Order.{closed}
 use Rattle.dirf.specs.Check.{bytesOf}
 use Rattle.dirf.specs.Theorems.Sound.{level, Sound}
 use Rattle.dirf.proofs.Bools.{if-cases}
-use Rattle.dirf.proofs.Levels.{opens-level}
+use Rattle.dirf.proofs.Says.{isIn-says}
+use Rattle.dirf.proofs.Levels.{opens-level, value-level}
 use Rattle.dirf.proofs.History.{next}
 use Rattle.dirf.proofs.OpenRecords.{Placed, placed}
 use Rattle.dirf.proofs.ValuePlace.{open-depth}
@@ -79,8 +80,8 @@ module _ (p : Path) (os up : List Open) (is : PathIs p os) (stack : Stack p up) 
                 kind = getD-set-same (p .kinds) d k 0 (omega (arith, is .kinds));
               },
               stack-on p opens d
-              (λ i s. (getD-set-other (p .lines) d i n 0 (λ q. omega arith), getD-set-other (p .kinds) d i k 0 (λ q. omega arith)))
-              up (omega arith) stack,
+                  (λ i s. (getD-set-other (p .lines) d i n 0 (λ q. omega arith), getD-set-other (p .kinds) d i k 0 (λ q. omega arith)))
+                  up (omega arith) stack,
             );
           }
 
@@ -111,8 +112,11 @@ module _ (text : Text) (p : Past) (before : List Rec) (m : Remembers text p befo
       line : (k : ℕ) → k < kinds → (x : Rec) (t : Bool) → eqb (r .kind) k ≡ t → (if t then some r else lastOf before k) ≡ some x
           → partOf text (getD (set (p .starts) (r .kind) start) k 0) (getD (set (p .lens) (r .kind) len) k 0) ≡ x .line
       line k s x true t q =
-          rw (← eqb-true (r .kind) k t, getD-set-same (p .starts) (r .kind) start 0 (omega (arith, m .sizes .1)),
-          getD-set-same (p .lens) (r .kind) len 0 (omega (arith, m .sizes .2))) (there ∙ same q)
+          rw (
+            ← eqb-true (r .kind) k t,
+            getD-set-same (p .starts) (r .kind) start 0 (omega (arith, m .sizes .1)),
+            getD-set-same (p .lens) (r .kind) len 0 (omega (arith, m .sizes .2)),
+          ) (there ∙ same q)
       line k s x false t q =
           let other : k ≢ r .kind = λ z. eqb-false (r .kind) k t (sym z) in
           rw (getD-set-other (p .starts) (r .kind) k start 0 other, getD-set-other (p .lens) (r .kind) k len 0 other) (m .line k s x q)
@@ -129,6 +133,15 @@ next-declares st before r n d = rw (n, d) (ap (λ t. if t then r .kind else decl
         go : (t : Bool) → eqb n 2 ≡ t → t ≡ eqb (suc n) 3
         go true t = sym (eq-eqb (suc n) 3 (ap suc (eqb-true n 2 t)))
         go false t = sym (ne-eqb (suc n) 3 (λ e. eqb-false n 2 t (omega arith)))
+
+-- no kind stands lower than a value record
+level-most : (k : ℕ) → level k ≤ deepest
+unfolding isValue
+level-most k = go (isValue k) refl
+  where
+    go : (t : Bool) → isValue k ≡ t → level k ≤ deepest
+    go true t = omega (arith, value-level (isIn-says k values .0 t))
+    go false t = omega (arith, opens-level k t)
 
 module _ (e : Edition) (sound : Sound e) (text : Text) (st : State) (before : List Rec) (h : Sums e text st before)
     (below : List (List ℕ)) (say : 3 ≤ length before → SayBelow e (declarant before) below)
@@ -149,7 +162,7 @@ module _ (e : Edition) (sound : Sound e) (text : Text) (st : State) (before : Li
         declares = next-declares st before r (h .count) (h .declares);
         path = rw (held .0, q .found, h .count, add-one (length before))
             (path-next (st .path) (opened before) (place e before k .up) (h .path) (held .1) k (suc (length before))
-            ? (λ t. omega (arith, open-depth (q .known), opens-level k t)));
+            (omega (arith, open-depth (q .known), level-most k)) (λ t. omega (arith, open-depth (q .known), opens-level k t)));
         past = rw (parent-same e sound text st before h below say k stands)
             (past-next text (st .past) before (h .past) r (st .at) (length line) small there);
         history = next stands refl (h .history);

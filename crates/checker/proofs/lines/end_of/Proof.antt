@@ -1,3 +1,4 @@
+-- Test by test, as the definition asks them.
 use borrow.Author.Tests.{eq-eqb, le-leb, lt-leb, ne-eqb}
 use Rattle.checker.proofs.lines.Bytewise.{ended}
 use borrow.Author.Needs.{needs}

@@ -1,3 +1,4 @@
+-- An empty text has no last byte; else it is the one before the end.
 use Rattle.checker.proofs.lines.Bytewise.{last-none, last-at}
 use borrow.Author.Needs.{needs}
 use Rattle.checker.proofs.lines.ends_in_bar.Statement.{statement}

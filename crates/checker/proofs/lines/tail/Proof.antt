@@ -1,3 +1,4 @@
+-- As many bytes as the whole text has are all that is left.
 use mathlib.Core.Path.{_∙_}
 use native.Mathlib.Omega.{arith}
 use lib.ListN.{length, drop, length-drop}
@@ -11,7 +12,7 @@ returns : tie.Need-returns
 unfolding partOf
 returns c =
     let a = c .before .before .args in
-    c .part .ensures .0 ∙ take-all (length (a .file .now)) (drop (a .start) (a .file .now)) (simp length-drop (omega arith))
+    c .part .ensures .0 ∙ take-all (length (a .s .now)) (drop (a .start) (a .s .now)) (simp length-drop (omega arith))
 
 pub tail-spec : {M : Type 1} → statement M
 tail-spec = tie.close (tie.spec (λ c κs. search needs) returns)

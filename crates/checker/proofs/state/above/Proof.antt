@@ -1,3 +1,4 @@
+-- Nothing stands outside place 0; else the one before it.
 use borrow.Author.Needs.{needs}
 use Rattle.checker.proofs.state.Tests.{above-none, above-at}
 use Rattle.checker.proofs.state.above.Statement.{statement}

@@ -1,3 +1,4 @@
+-- The record of line 3 is the declarant; no later one changes it.
 use borrow.Author.Tests.{eq-eqb, ne-eqb}
 use Rattle.checker.specs.State.{declarantOf}
 use Rattle.checker.proofs.state.declarant_of.Statement.{statement}

@@ -10,11 +10,10 @@ use Rattle.checker.proofs.state.held_in.Statement.{statement}
 use Rattle.checker.proofs.state.held_in.Tie as tie
 
 abbrev Inv-loop : tie.InvT-loop
-Inv-loop below declarant path k kinds i₀ i =
-    (i ≤ deepest) × (heldIn below declarant (path .kinds) k (path .depth) ≡ heldIn below declarant (path .kinds) k i)
+Inv-loop below declarant k kinds depth i = (i ≤ deepest) × (heldIn below declarant kinds k depth ≡ heldIn below declarant kinds k i)
 
 abbrev μ-loop : tie.MeasureT-loop
-μ-loop below declarant path k kinds i₀ i = i
+μ-loop below declarant k kinds depth i = i
 
 -- what one more open record comes to
 step : (c : tie.After-may-hold Inv-loop μ-loop) → let a = c .before .before .before .before .before .args in
@@ -24,7 +23,9 @@ step : (c : tie.After-may-hold Inv-loop μ-loop) → let a = c .before .before .
 step c =
     let a = c .before .before .before .before .before .args in
     let l = c .before .before .before .loop in
-    l .inv .1 ∙ held-step (a .below .now) (a .declarant) (a .path .kinds) (a .k) (l .i) (omega arith) (c .before .above .ensures) (c .may-hold .ensures)
+    l .inv .1
+    ∙ held-step (a .below .now) (a .declarant) (a .path .kinds) (a .k) (l .i) (omega arith)
+    (c .before .above .ensures) (c .may-hold .ensures)
 
 pub held-in-spec : {M : Type 1} → statement M
 unfolding heldIn

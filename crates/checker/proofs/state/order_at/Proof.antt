@@ -1,3 +1,4 @@
+-- Only where a record stands open at that depth is there one to come after.
 use borrow.Author.Tests.{le-ltb, lt-ltb}
 use borrow.Author.Needs.{needs}
 use Rattle.checker.specs.State.{orderAt}
@@ -11,5 +12,5 @@ order-at-spec =
     (tie.spec
     (λ c. search needs)
     (λ c. search needs)
-    (λ c. simp (lt-ltb _ _ (c .if1 .taken)))
+    (λ c. simp (lt-ltb _ _ (c .before .if1 .taken)))
     (λ c. simp (le-ltb _ _ (c .if1 .left))))

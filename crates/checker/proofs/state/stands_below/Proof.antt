@@ -1,3 +1,4 @@
+-- Test by test, as the definition asks them.
 use borrow.Author.Tests.{eq-eqb, ne-eqb, le-ltb, lt-ltb}
 use borrow.Author.Needs.{needs}
 use Rattle.checker.specs.State.{belowOn}
@@ -11,5 +12,5 @@ stands-below-spec =
     (tie.spec
     (λ c. simp (eq-eqb _ _ (c .if1 .taken)))
     (λ c κs. search needs)
-    (λ c. simp (c .order-at .ensures, lt-ltb _ _ (c .before .before .if2 .taken), ne-eqb _ _ (c .before .before .before .if1 .left)))
+    (λ c. simp (c .order-at .ensures, lt-ltb _ _ (c .before .if2 .taken), ne-eqb _ _ (c .before .before .if1 .left)))
     (λ c. simp (le-ltb _ _ (c .if2 .left), ne-eqb _ _ (c .before .if1 .left))))

@@ -1,3 +1,4 @@
+-- The definition is the value.
 use mathlib.Core.Path.{refl}
 use Rattle.checker.specs.State.{startState}
 use Rattle.checker.proofs.state.start.Statement.{statement}
