@@ -5,13 +5,13 @@ use mathlib.Core.Bool.{Bool, true, false}
 use mathlib.Core.List.{List, [], _∷_, _++_, append-assoc}
 use native.Mathlib.Omega.{arith}
 use lib.Dec.{ltb}
-use lib.ListN.{length, take, drop, length-append, length-drop}
+use lib.ListN.{length, take, drop, length-append, length-take}
 use lib.Seq.{sets, sets-eq, take-at, drop-at, drop-drop, take-all, take-append-le, length-front, length-take-le}
 use borrow.Author.Tests.{lt-ltb, le-ltb, ltb-true, ltb-false}
 use Rattle.dirf.specs.Bytes.{if_then_else_}
 use Rattle.dirf.specs.Limits.{numbersAnEntry}
-use Rattle.dirf.specs.Check.{Entry, entryNumbers, numbersOf}
-use Rattle.checker.specs.Answers.{withEntries, putEntry}
+use Rattle.dirf.specs.Check.{Entry, entryNumbers, numbersOf, Verdict}
+use Rattle.checker.specs.Answers.{withEntries, tableWithin, tableAfter, putEntry}
 
 pub length-numbers : (es : List Entry) → length (numbersOf es) ≡ numbersAnEntry * length es
 unfolding numbersOf entryNumbers
@@ -63,3 +63,12 @@ put-next t es x = go (ltb (length es) m) refl
     go false b =
         let l = ltb-false (length es) m b in
         rw (take-append-le m es (x ∷ []) l) (put-none t (take m es) (omega (arith, length-take-le m es l)) (length es) (entryNumbers x) l)
+
+pub within-length : (v : Verdict) (t : List ℕ) → length (tableWithin v t) ≡ length t
+unfolding tableWithin
+within-length v t = let m : ℕ = length t / numbersAnEntry in with-length t (take m (v .table)) (omega (arith, length-take m (v .table)))
+
+-- where all of them fit, those are all
+pub all-within : (v : Verdict) (t : List ℕ) → length (v .table) ≤ length t / numbersAnEntry → tableWithin v t ≡ tableAfter v t
+unfolding tableWithin tableAfter
+all-within v t fits = ap (λ es. withEntries es t) (take-all (length t / numbersAnEntry) (v .table) fits)

@@ -2,10 +2,11 @@
 mod lines;
 mod state;
 mod turn;
-use turn::Entry;
+
 use layout::KINDS;
 use layout::NAME_BYTES;
 use layout::ROW_BYTES;
+use turn::Entry;
 ghost use mathlib.Core.Path.{_≡_};
 ghost use Prim.Native.Nat.{_+_, _*_, _/_, _≤_, _<_};
 ghost use lib.ListN.{length};
@@ -68,7 +69,14 @@ fn third_kind(names: &[u8; NAME_BYTES], file: &[u8]) -> u32
 }
 
 // Line by line, with tables that say an edition; entries go to the table where it holds them whole.
-fn walk(names: &[u8; NAME_BYTES], rows: &[u8; ROW_BYTES], below: &[[u8; KINDS]; KINDS], file: &[u8], room: usize, table: &mut [u32]) -> Answer
+fn walk(
+    names: &[u8; NAME_BYTES],
+    rows: &[u8; ROW_BYTES],
+    below: &[[u8; KINDS]; KINDS],
+    file: &[u8],
+    room: usize,
+    table: &mut [u32],
+) -> Answer
     requires { ⌜ Tabled (now names) (now rows) (now below) (now file) ⌝ }
     ensures answer { λ r. ⌜ Answers (now (names .entry)) (now (rows .entry)) (now (below .entry)) (now (file .entry)) room r ⌝ }
     ensures entries { λ r. ⌜ Leaves (now (names .entry)) (now (rows .entry)) (now (below .entry)) (now (file .entry)) room
@@ -99,7 +107,14 @@ pub fn check(file: &[u8], table: &mut [u32]) -> Answer
     let names = layout::name_table();
     let rows = layout::row_table();
     let below = layout::below_table(third_kind(&names, file));
-    walk(&names, &rows, &below, file, table.len() / NUMBERS_AN_ENTRY, table)
+    walk(
+        &names,
+        &rows,
+        &below,
+        file,
+        table.len() / NUMBERS_AN_ENTRY,
+        table,
+    )
 }
 
 // The check with a room in entries and no table.

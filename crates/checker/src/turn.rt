@@ -125,7 +125,13 @@ fn looked(file: &[u8], st: State, r: Record) -> Stepped
 }
 
 // 11, then 13 to 19
-fn filled_found(names: &[u8; NAME_BYTES], rows: &[u8; ROW_BYTES], line: &[u8], p: Places, k: u32) -> Finding
+fn filled_found(
+    names: &[u8; NAME_BYTES],
+    rows: &[u8; ROW_BYTES],
+    line: &[u8],
+    p: Places,
+    k: u32,
+) -> Finding
     ensures { λ f. ⌜ f ≡ findingOf (filledFound (now (names .entry)) (now (rows .entry)) (now (line .entry)) p k) ⌝ }
 {
     if p.count != layout::field_count(rows, k) {
@@ -137,7 +143,13 @@ fn filled_found(names: &[u8; NAME_BYTES], rows: &[u8; ROW_BYTES], line: &[u8], p
     rules::contents_found(line, p, layout::name(names, k), rows, k)
 }
 
-fn filled(names: &[u8; NAME_BYTES], rows: &[u8; ROW_BYTES], file: &[u8], st: State, r: Record) -> Stepped
+fn filled(
+    names: &[u8; NAME_BYTES],
+    rows: &[u8; ROW_BYTES],
+    file: &[u8],
+    st: State,
+    r: Record,
+) -> Stepped
     requires { ⌜ Fits st r ⌝ }
     ensures { λ s. ⌜ s ≡ fillStep (now (names .entry)) (now (rows .entry)) (now (file .entry)) st r ⌝ }
 {
@@ -151,7 +163,13 @@ fn filled(names: &[u8; NAME_BYTES], rows: &[u8; ROW_BYTES], file: &[u8], st: Sta
 }
 
 // 9, 10 and 12
-fn placed(names: &[u8; NAME_BYTES], rows: &[u8; ROW_BYTES], file: &[u8], st: State, r: Record) -> Stepped
+fn placed(
+    names: &[u8; NAME_BYTES],
+    rows: &[u8; ROW_BYTES],
+    file: &[u8],
+    st: State,
+    r: Record,
+) -> Stepped
     requires { ⌜ Fits st r ⌝ }
     ensures { λ s. ⌜ s ≡ placeStep (now (names .entry)) (now (rows .entry)) (now (file .entry)) st r ⌝ }
 {
@@ -163,7 +181,13 @@ fn placed(names: &[u8; NAME_BYTES], rows: &[u8; ROW_BYTES], file: &[u8], st: Sta
 }
 
 // The line as a record: its kind by its identifier, and its place by its kind.
-fn record_of(names: &[u8; NAME_BYTES], below: &[[u8; KINDS]; KINDS], line: &[u8], st: State, l: Line) -> Record
+fn record_of(
+    names: &[u8; NAME_BYTES],
+    below: &[[u8; KINDS]; KINDS],
+    line: &[u8],
+    st: State,
+    l: Line,
+) -> Record
     requires { ⌜ st .path .depth ≤ deepest ⌝ }
     ensures { λ r. ⌜ (r ≡ recordOf (now (names .entry)) (now (below .entry)) (now (line .entry)) st l) × ((r .kind < kinds) × (r .outer ≤ deepest)) ⌝ }
 {
@@ -178,7 +202,14 @@ fn record_of(names: &[u8; NAME_BYTES], below: &[[u8; KINDS]; KINDS], line: &[u8]
 }
 
 // 8
-fn barred(names: &[u8; NAME_BYTES], rows: &[u8; ROW_BYTES], below: &[[u8; KINDS]; KINDS], file: &[u8], st: State, l: Line) -> Stepped
+fn barred(
+    names: &[u8; NAME_BYTES],
+    rows: &[u8; ROW_BYTES],
+    below: &[[u8; KINDS]; KINDS],
+    file: &[u8],
+    st: State,
+    l: Line,
+) -> Stepped
     requires { ⌜ Safe st × (l .len ≤ lineLimit) ⌝ }
     ensures { λ s. ⌜ s ≡ barStep (now (names .entry)) (now (rows .entry)) (now (below .entry)) (now (file .entry)) st l ⌝ }
 {
@@ -192,7 +223,13 @@ fn barred(names: &[u8; NAME_BYTES], rows: &[u8; ROW_BYTES], below: &[[u8; KINDS]
 }
 
 // 4, 5 and 6
-fn lined(names: &[u8; NAME_BYTES], rows: &[u8; ROW_BYTES], below: &[[u8; KINDS]; KINDS], file: &[u8], st: State) -> Stepped
+fn lined(
+    names: &[u8; NAME_BYTES],
+    rows: &[u8; ROW_BYTES],
+    below: &[[u8; KINDS]; KINDS],
+    file: &[u8],
+    st: State,
+) -> Stepped
     requires { ⌜ Safe st ⌝ }
     ensures { λ s. ⌜ s ≡ lineStep (now (names .entry)) (now (rows .entry)) (now (below .entry)) (now (file .entry)) st ⌝ }
 {
@@ -205,7 +242,13 @@ fn lined(names: &[u8; NAME_BYTES], rows: &[u8; ROW_BYTES], below: &[[u8; KINDS];
 }
 
 // The end, 1, 2 and 3.
-pub(crate) fn turn(names: &[u8; NAME_BYTES], rows: &[u8; ROW_BYTES], below: &[[u8; KINDS]; KINDS], file: &[u8], st: State) -> Stepped
+pub(crate) fn turn(
+    names: &[u8; NAME_BYTES],
+    rows: &[u8; ROW_BYTES],
+    below: &[[u8; KINDS]; KINDS],
+    file: &[u8],
+    st: State,
+) -> Stepped
     requires { ⌜ Near st ⌝ }
     ensures { λ s. ⌜ s ≡ turnOf (now (names .entry)) (now (rows .entry)) (now (below .entry)) (now (file .entry)) st ⌝ }
 {

@@ -1,5 +1,4 @@
 -- The tables are those of 2025.
-use mathlib.Core.Path.{_≡_, refl}
 use borrow.Author.Needs.{needs}
 use Rattle.dirf.specs.Edition.{edition2025}
 use Rattle.checker.proofs.Edition2025.{say2025}
@@ -17,5 +16,15 @@ check-room-spec =
     (λ c. search needs)
     (λ c. search needs)
     (λ c. search needs)
-    (λ c κs. record { edition = edition2025; all = say2025 _ (c .before .before .before .before .before .before .before .before .name-table .ensures) (c .before .before .before .before .before .before .before .row-table .ensures) (c .before .before .before .before .before .third-kind .ensures) (c .before .before .before .before .below-table .ensures) })
-    (λ c. c .before .walk .ensures .0 edition2025 (say2025 _ (c .before .before .before .before .before .before .before .before .before .before .name-table .ensures) (c .before .before .before .before .before .before .before .before .before .row-table .ensures) (c .before .before .before .before .before .before .before .third-kind .ensures) (c .before .before .before .before .before .before .below-table .ensures))))
+    (λ c κs.
+    let b = c .before .before .before .before in
+    record {
+      edition = edition2025;
+      all = say2025 _ (b .before .before .before .before .name-table .ensures) (b .before .before .before .row-table .ensures)
+          (b .before .third-kind .ensures) (b .below-table .ensures);
+    })
+    (λ c.
+    let b = c .before .before .before .before .before .before in
+    c .before .walk .ensures .0 edition2025
+    (say2025 _ (b .before .before .before .before .name-table .ensures) (b .before .before .before .row-table .ensures)
+    (b .before .third-kind .ensures) (b .below-table .ensures))))

@@ -16,6 +16,6 @@ put-entry-spec =
     (tie.spec
     (λ c. omega arith)
     (λ c κs. omega (arith, c .before .before .before .before .pre .1))
-    (λ c. rw (c .before .before .put-numbers .ensures) (length-sets _ _ _))
+    (λ c. simp (c .before .before .put-numbers .ensures, length-sets))
     (λ c. simp (c .before .before .put-numbers .ensures, lt-ltb _ _ (c .before .before .before .before .if1 .taken)))
     (λ c. simp (le-ltb _ _ (c .if1 .left))))

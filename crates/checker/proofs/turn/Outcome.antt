@@ -246,7 +246,7 @@ module _ (e : Edition) (sound : Sound e) (names rows : List ℕ) (say : Say e na
           let w = q .whole z in
           subst (λ p. Outcome e file (st .at) before (recOf e before p) (q .rest) (s 0) (late p)) (sym (w .is-piece))
           (whole-outcome (q .rest) (w .is-rest) (w .short))
-      go (suc m) z = gave e file st before h (suc m) 0
+      go (suc m) z = rw (ne-eqb (suc m) 0 (λ q. omega arith)) (gave e file st before h (suc m) 0)
 
   many : leb linesLimit (st .count) ≡ ltb linesLimit (suc (length before))
   many = go (leb linesLimit (st .count)) refl

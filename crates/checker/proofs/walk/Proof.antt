@@ -27,9 +27,10 @@ returns : tie.Need-returns Inv-loop μ-loop
 returns c =
     let h = c .before .before .before .loop .inv in
     let u = c .before .before .turn in
-    let stops = c .before .if1 .taken in
-    (λ e all. answered e _ _ _ _ _ all _ (h e all) _ (turn-step e _ _ _ _ _ all _ (h e all) (u .result) (u .ensures) .stops stops) .0,
-    λ e all. answered e _ _ _ _ _ all _ (h e all) _ (turn-step e _ _ _ _ _ all _ (h e all) (u .result) (u .ensures) .stops stops) .1)
+    let stops = c .before .if1 .taken in (
+      λ e all. answered e _ _ _ _ _ all _ (h e all) _ (turn-step e _ _ _ _ _ all _ (h e all) (u .result) (u .ensures) .stops stops) .0,
+      λ e all. answered e _ _ _ _ _ all _ (h e all) _ (turn-step e _ _ _ _ _ all _ (h e all) (u .result) (u .ensures) .stops stops) .1,
+    )
 
 pub walk-spec : {M : Type 1} → statement M
 unfolding entryNumbers
@@ -50,10 +51,11 @@ walk-spec =
     let h = c .before .before .before .before .before .before .loop .inv in
     let u = c .before .before .before .before .before .turn in
     let goes = c .before .before .before .before .if1 .left in
-    let q = c .before .refuse .ensures in
-    (λ e all. ap (λ (x : Stepped). x .answer) q
-    ∙ answered e _ _ _ _ _ all _ (h e all) _ (turn-step e _ _ _ _ _ all _ (h e all) (u .result) (u .ensures) .full goes (c .before .before .if2 .taken)) .0,
-    λ e all. answered e _ _ _ _ _ all _ (h e all) _ (turn-step e _ _ _ _ _ all _ (h e all) (u .result) (u .ensures) .full goes (c .before .before .if2 .taken)) .1))
+    let q = c .before .refuse .ensures in (
+      λ e all. ap (λ (x : Stepped). x .answer) q
+          ∙ answered e _ _ _ _ _ all _ (h e all) _ (turn-step e _ _ _ _ _ all _ (h e all) (u .result) (u .ensures) .full goes (c .before .before .if2 .taken)) .0,
+      λ e all. answered e _ _ _ _ _ all _ (h e all) _ (turn-step e _ _ _ _ _ all _ (h e all) (u .result) (u .ensures) .full goes (c .before .before .if2 .taken)) .1,
+    ))
     (λ c κs.
     let t = c .before .before .before .before .before .before .before .before .pre in
     let u = c .before .before .before .turn in

@@ -2,6 +2,7 @@
 use Prim.Native.Nat.{ℕ}
 use mathlib.Core.Path.{_≡_, ap, ap₂, _∙_}
 use borrow.Author.Needs.{needs}
+use lib.ListN.{getD}
 use Rattle.dirf.specs.Bytes.{Text}
 use Rattle.fields.specs.Places.{partOf, cellAt}
 use Rattle.rules.specs.Findings.{findingOf}
@@ -25,10 +26,12 @@ found c =
     let parent = above (a .st .path .lines) (a .r .outer) in
     let cell : ℕ → Text = cellAt line (a .r .places) in
     let second : u .before .before .before .part2 .result .now ≡ cell 1 =
-    u .before .before .before .part2 .ensures .0 ∙ ap (λ l. partOf l _ _) (c .before .before .before .before .before .before .before .before .before .before .before .before .part .ensures .0) in
-    let third : u .part3 .result .now ≡ cell 2 = u .part3 .ensures .0 ∙ ap (λ l. partOf l _ _) (c .before .before .before .before .before .before .before .before .before .before .before .before .part .ensures .0) in
+    u .before .before .before .part2 .ensures .0 ∙ ap (λ l. partOf l (getD (a .r .places .starts) 1 0) (getD (a .r .places .lens) 1 0)) (c .before .before .before .before .before .before .before .before .before .before .before .before .part .ensures .0) in
+    let third : u .part3 .result .now ≡ cell 2 =
+    u .part3 .ensures .0 ∙ ap (λ l. partOf l (getD (a .r .places .starts) 2 0) (getD (a .r .places .lens) 2 0)) (c .before .before .before .before .before .before .before .before .before .before .before .before .part .ensures .0) in
     c .look-found .ensures
-    ∙ ap (λ p. findingOf (lookFound (a .file .now) (a .st .past) (a .r .kind) p _ _)) (c .before .above .ensures)
+    ∙ ap (λ p. findingOf (lookFound (a .file .now) (a .st .past) (a .r .kind) p (u .before .before .before .part2 .result .now) (u .part3 .result .now)))
+    (c .before .above .ensures)
     ∙ ap₂ (λ x y. findingOf (lookFound (a .file .now) (a .st .past) (a .r .kind) parent x y)) second third
 
 pub looked-spec : {M : Type 1} → statement M

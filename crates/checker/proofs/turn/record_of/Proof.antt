@@ -17,8 +17,7 @@ record-of-spec =
     (λ c κs. search needs)
     (λ c κs. c .before .before .before .before .pre)
     (λ c.
-    let k = c .before .before .kind-of .ensures in
-    (
+    let k = c .before .before .kind-of .ensures in (
       simp (c .held-at .ensures .0, k, c .before .before .before .field .ensures .0),
       (subst (λ x. x < kinds) (sym k) (kind-bound _ _), c .held-at .ensures .1),
     )))
