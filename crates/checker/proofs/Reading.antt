@@ -6,6 +6,7 @@ use mathlib.Core.List.{List, [], _∷_, _++_}
 use native.Mathlib.Omega.{arith}
 use lib.Dec.{eqb, leb, ltb}
 use lib.ListN.{length, drop, drop-of-length-le}
+use lib.Seq.{drop-drop}
 use borrow.Author.Tests.{leb-true, leb-false, ltb-false, lt-ltb, le-ltb, eqb-true, eqb-false}
 use Rattle.dirf.specs.Bytes.{if_then_else_, Text}
 use Rattle.dirf.specs.Limits.{linesLimit, lineLimit}
@@ -13,10 +14,10 @@ use Rattle.dirf.specs.Edition.{Edition, kindIn}
 use Rattle.dirf.specs.Lines.{Piece, pieces, clean, fields, field}
 use Rattle.dirf.specs.FieldReader.{fieldOf}
 use Rattle.dirf.specs.Rules.{Found, keeps, breaks, given, orElse, ask, first, askedOf, over}
-use Rattle.dirf.specs.Tree.{Rec, declarant, opening}
-use Rattle.dirf.specs.Order.{here, kindOfLine, lineNumber, closed, tooManyLines, noRoom, order}
+use Rattle.dirf.specs.Tree.{Rec, declarant, opening, parentOf}
+use Rattle.dirf.specs.Order.{here, kindOfLine, lineNumber, closed, tooManyLines, order, line-opens}
 use Rattle.dirf.specs.Order as parts
-use Rattle.dirf.specs.Check.{Entry, bytesOf, entryOf, tableOf, Verdict, refused, accepted, noBytesLeft, recOf, breach, afterLine, run, verdict}
+use Rattle.dirf.specs.Check.{entryOf as entryAfter, bytesOf, tableOf, Verdict, refused, accepted, noBytesLeft, recOf, breach, afterLine, run, verdict}
 use Rattle.dirf.proofs.Bools.{if-cases}
 use Rattle.dirf.proofs.Lists.{listed}
 use Rattle.dirf.proofs.Asked.{rule-kept}
@@ -27,15 +28,17 @@ use Rattle.dirf.proofs.ValuePlace.{open-depth}
 use Rattle.layout.specs.Tables.{namesIn}
 use Rattle.layout.specs.LaidOut.{SayBelow}
 use Rattle.checker.specs.Lines.{afterLine as behindLine, thirdKind}
-use Rattle.checker.specs.State.{deepest, lineBytes, startState, Near}
-use Rattle.checker.specs.Turn.{haltAt, halt, turnOf}
+use Rattle.checker.specs.State.{deepest, lineBytes, startState, startPast, lastIn, above, Near, pastAfter, stateAfter}
+use Rattle.checker.specs.Turn.{refusedAt, haltAt, halt, Fits, lookedFound, entryOf, turnOf}
 use Rattle.checker.specs.Answers.{answerOf, entryOfCode, SayAll}
 use Rattle.checker.specs.declared.Answer.{Answer}
+use Rattle.checker.specs.declared.state.Past.{Past}
 use Rattle.checker.specs.declared.state.State.{State}
 use Rattle.checker.specs.declared.turn.Stepped.{Stepped}
-use Rattle.checker.specs.declared.turn.Entry as code
-use Rattle.checker.proofs.state.Sums.{Sums, sums-start}
-use Rattle.checker.proofs.turn.Outcome.{early, or-keeps, Outcome, gave, Turned, turned}
+use Rattle.checker.specs.declared.turn.Record.{Record}
+use Rattle.checker.proofs.state.Sums.{Sums, sums-start, held-same, parent-same}
+use Rattle.checker.proofs.state.Next.{sums-next, held-few}
+use Rattle.checker.proofs.turn.Outcome.{early, or-keeps, lookRule, Took, Outcome, readAs, answer-is, there, small, looked-is, Turned, turned}
 
 -- what stands behind n lines
 unfoldable pub behind : ℕ → Text → Text
@@ -45,15 +48,15 @@ behind (suc n) s = behind n (behindLine s)
 module _ (e : Edition) (names rows : List ℕ) (below : List (List ℕ)) (file : Text) (room : ℕ) (all : SayAll e names rows below file) where
   -- The state sums up the records read so far, and what the rest of the file comes to is what the file comes to. Line 3 is the one by
   -- which the table below was chosen.
-  pub record Reading (st : State) (before : List Rec) : Type 0 where
-    pub sums : Sums e file st before
+  pub record Reading (st : State) (past : Past) (before : List Rec) : Type 0 where
+    pub sums : Sums e file st past before
     pub rest : run e room before (pieces (drop (st .at) file)) ≡ verdict e file room
     pub few : st .count ≤ linesLimit
     pub close : st .at ≤ lineBytes * st .count
     pub ahead : (n : ℕ) → st .count + n ≡ 2 → behind n (drop (st .at) file) ≡ behindLine (behindLine file)
     pub third : 3 ≤ length before → declarant before ≡ thirdKind names file
 
-  pub reading-start : Reading startState []
+  pub reading-start : Reading startState startPast []
   unfolding startState verdict behind
   reading-start =
       record {
@@ -70,31 +73,32 @@ module _ (e : Edition) (names rows : List ℕ) (below : List (List ℕ)) (file :
     pub answer : a ≡ answerOf (verdict e file room)
     pub table : verdict e file room .table ≡ tableOf before
 
-  -- or one record more
-  pub record Goes (st : State) (before : List Rec) (s : Stepped) : Type 0 where
-    pub rec : Rec
-    pub entry : entryOfCode (s .entry) ≡ entryOf rec before
-    pub count : s .next .count ≡ st .count + 1
-    pub reading : Reading (s .next) (rec ∷ before)
-    pub small : (s .entry .start < 4294967296) × (s .entry .len < 4294967296)
+  -- 21 and 20, then 7, come last
+  look-is : (before : List Rec) (p : Piece) → first parts.lookBack (here e room before p) ≡ lookRule e before (p .body) (kindOfLine e (p .body))
+  unfolding first ask line-opens
+  look-is before p = simp or-keeps
 
-  -- 7 comes last
   room-is : (before : List Rec) (p : Piece) → first parts.room (here e room before p) ≡ given 7 0 (ltb room (suc (length before)))
-  unfolding first ask here noRoom lineNumber
-  room-is before p = or-keeps (given 7 0 (ltb room (suc (length before))))
+  unfolding first ask line-opens
+  room-is before p = simp or-keeps
 
-  room-last : (before : List Rec) (p : Piece)
-      → breach e room before p ≡ orElse (first early (here e room before p)) (given 7 0 (ltb room (suc (length before))))
+  last-parts : (before : List Rec) (p : Piece)
+      → breach e room before p
+      ≡ orElse (orElse (first early (here e room before p)) (lookRule e before (p .body) (kindOfLine e (p .body))))
+      (given 7 0 (ltb room (suc (length before))))
   unfolding breach order
-  room-last before p = first-append early parts.room (here e room before p) ∙ ap (orElse (first early (here e room before p))) (room-is before p)
+  last-parts before p =
+      let h = here e room before p in
+      first-append (early ++ parts.lookBack) parts.room h
+      ∙ ap₂ orElse (first-append early parts.lookBack h ∙ ap (orElse (first early h)) (look-is before p)) (room-is before p)
 
-  -- a line that keeps every rule is not too late
-  few-lines : (before : List Rec) (p : Piece) → breach e room before p ≡ keeps → length before < linesLimit
-  unfolding breach here lineNumber tooManyLines order over askedOf
+  -- a line that keeps the first rules is not too late
+  few-lines : (before : List Rec) (p : Piece) → first early (here e room before p) ≡ keeps → length before < linesLimit
+  unfolding here lineNumber tooManyLines over askedOf
   few-lines before p kept =
       ltb-false linesLimit (suc (length before)) (rule-kept 3 0 tooManyLines (here e room before p) (search listed depth 30) kept)
 
-  module _ (st : State) (before : List Rec) (h : Reading st before) where
+  module _ (st : State) (past : Past) (before : List Rec) (h : Reading st past before) where
     pub near : Near st
     near =
         record {
@@ -106,23 +110,35 @@ module _ (e : Edition) (names rows : List ℕ) (below : List (List ℕ)) (file :
     say-below : 3 ≤ length before → SayBelow e (declarant before) below
     say-below l = subst (λ d. SayBelow e d below) (sym (h .third l)) (all .say-below)
 
+    -- one record more
+    pub record Goes (r : Record) : Type 0 where
+      pub rec : Rec
+      pub entry : entryOfCode (entryOf st r) ≡ entryAfter rec before
+      pub reading : Reading (stateAfter st (r .kind) (r .outer) (r .len))
+          (pastAfter past (r .kind) (above (st .path .lines) (r .outer)) (st .at) (r .len)) (rec ∷ before)
+
+    -- a record was read: what 21 and 20, and then 7, make of it
+    pub record On (r : Record) : Type 0 where
+      pub fits : Fits st r
+      pub refuses : (n f : ℕ) → lookedFound file st r (lastIn past (r .kind)) ≡ breaks n f → Stops before (refusedAt (st .count) n f)
+      pub full : lookedFound file st r (lastIn past (r .kind)) ≡ keeps → room ≤ st .count → Stops before (refusedAt (st .count) 7 0)
+      pub goes : lookedFound file st r (lastIn past (r .kind)) ≡ keeps → st .count < room → Goes r
+
     pub record Step (s : Stepped) : Type 0 where
       pub stops : s .stop ≡ true → Stops before (s .answer)
-      pub full : s .stop ≡ false → room ≤ st .count → Stops before (halt st 7 0 .answer)
-      pub goes : s .stop ≡ false → st .count < room → Goes st before s
+      pub goes : s .stop ≡ false → On (s .read)
 
     ends : (a : Answer) (v : Verdict) → a ≡ answerOf v → v .table ≡ tableOf before → v ≡ verdict e file room → Stops before a
     ends a v q t w = record { answer = q ∙ ap answerOf w; table = sym (ap (λ (v : Verdict). v .table) w) ∙ t }
 
     stopped : (s : Stepped) → s .stop ≡ true → Stops before (s .answer) → Step s
-    stopped s d w =
-        record { stops = λ _. w; full = λ g _. absurd (true≢false (sym d ∙ g)); goes = λ g _. absurd (true≢false (sym d ∙ g)) }
+    stopped s d w = record { stops = λ _. w; goes = λ g. absurd (true≢false (sym d ∙ g)) }
 
     -- the file ends here
-    end-step : length file ≤ st .at → Step (if st .done then haltAt st 0 (st .count) 0 (st .count) else halt st 1 0)
+    end-step : length file ≤ st .at → Step (if st .done then haltAt (record { number = 0; line = st .count; field = 0; entries = st .count }) else halt st 1 0)
     unfolding run noBytesLeft accepted refused answerOf pieces
     end-step l =
-        subst (λ d. Step (if d then haltAt st 0 (st .count) 0 (st .count) else halt st 1 0)) (sym (h .sums .done)) (go (closed before) on)
+        subst (λ d. Step (if d then haltAt (record { number = 0; line = st .count; field = 0; entries = st .count }) else halt st 1 0)) (sym (h .sums .done)) (go (closed before) on)
       where
         on : noBytesLeft before ≡ verdict e file room
         on = sym (ap (λ s. run e room before (pieces s)) (drop-of-length-le file l)) ∙ h .rest
@@ -136,7 +152,7 @@ module _ (e : Edition) (names rows : List ℕ) (below : List (List ℕ)) (file :
         answers number q = ap₂ (λ x y. record { number = number; line = x; field = 0; entries = y }) q (n ∙ sym (table-length before))
 
         go : (t : Bool) → (if t then accepted before else refused before 1 0) ≡ verdict e file room
-            → Step (if t then haltAt st 0 (st .count) 0 (st .count) else halt st 1 0)
+            → Step (if t then haltAt (record { number = 0; line = st .count; field = 0; entries = st .count }) else halt st 1 0)
         go true q = stopped _ refl (ends _ (accepted before) (answers 0 n) refl q)
         go false q = stopped _ refl (ends _ (refused before 1 0) (answers 1 (omega (arith, n))) refl q)
 
@@ -152,15 +168,12 @@ module _ (e : Edition) (names rows : List ℕ) (below : List (List ℕ)) (file :
         ∙ ap (λ s. kindIn (namesIn names) (field 1 (fields s))) (line ∙ ap clean (h .ahead 0 two)))
         (λ t. h .third (omega (arith, eqb-false (suc (length before)) 3 t)))
 
-    module _ (s : Stepped) (t : Turned e (all .sound) names rows (all .say) below file st before (h .sums) say-below room s) where
+    module _ (s : Stepped) (t : Turned e (all .sound) names rows (all .say) below file st past before (h .sums) say-below room s) where
       abbrev p : Piece
       p = t .piece
 
-      abbrev r : Rec
-      r = recOf e before p
-
       abbrev later : Verdict
-      later = run e room (r ∷ before) (t .rest)
+      later = run e room (recOf e before p ∷ before) (t .rest)
 
       on : afterLine before (breach e room before p) later ≡ verdict e file room
       unfolding run
@@ -174,45 +187,92 @@ module _ (e : Edition) (names rows : List ℕ) (below : List (List ℕ)) (file :
           (q ∙ ap (λ x. record { number = n; line = suc (length before); field = f; entries = x }) (sym (table-length before))) refl
           (sym (ap (λ f. afterLine before f later) b) ∙ on)
 
-      -- the line was taken, and there is room
-      more : Outcome e file (st .at) before r (t .rest) s keeps → breach e room before p ≡ keeps → Goes st before s
-      unfolding afterLine recOf bytesOf entryOf behind
-      more o b =
-          let n = few-lines before p b in
-          let starts : s .entry .start ≡ bytesOf before = ap (λ (x : code.Entry). x .start) (o .entry) in
-          let long : s .entry .len ≡ length (p .body) = ap (λ (x : code.Entry). x .len) (o .entry) in
-          let moved : bytesOf (r ∷ before) ≡ bytesOf before + length (p .body) + 2 = refl in
-          record {
-            rec = r;
-            entry = ap entryOfCode (o .entry);
-            count = omega (arith, o .sums .count, h .sums .count);
-            reading = record {
-              sums = o .sums;
-              rest = ap (run e room (r ∷ before)) (o .left) ∙ sym (ap (λ f. afterLine before f later) b) ∙ on;
-              few = omega (arith, o .sums .count, n);
-              close = omega (arith, o .sums .count, o .sums .at, h .sums .at, h .sums .count, h .close, o .short, moved);
-              ahead = λ m q. ap (behind m) (o .on) ∙ h .ahead (suc m) (omega (arith, o .sums .count, h .sums .count, q));
-              third = third-next r (o .line) refl;
-            };
-            small = (omega (arith, starts, h .sums .at, h .close, h .few), omega (arith, long, o .short));
-          }
+      module _ (kept : first early (here e room before p) ≡ keeps) (o : Took e below file st before p (t .rest) s) where
+        abbrev r′ : Record
+        r′ = readAs e below file st before
+
+        abbrev line : Text
+        line = clean (drop (st .at) file)
+
+        abbrev k : ℕ
+        k = kindOfLine e line
+
+        abbrev r : Rec
+        r = record { kind = k; line = line; parent = parentOf e before k }
+
+        breach-is : breach e room before p ≡ orElse (lookedFound file st r′ (lastIn past k)) (given 7 0 (ltb room (suc (length before))))
+        unfolding orElse
+        breach-is =
+            last-parts before p
+            ∙ ap (λ f. orElse (orElse f (lookRule e before (p .body) (kindOfLine e (p .body)))) (given 7 0 (ltb room (suc (length before))))) kept
+            ∙ ap (λ (q : Piece). orElse (lookRule e before (q .body) (kindOfLine e (q .body))) (given 7 0 (ltb room (suc (length before))))) (o .is-piece)
+            ∙ ap (λ f. orElse f (given 7 0 (ltb room (suc (length before)))))
+            (sym (looked-is e (all .sound) names rows (all .say) below file st past before (h .sums) say-below (o .stands) (o .few)))
+
+        safe : Fits st r′
+        safe =
+            let held = held-same e (all .sound) file st past before (h .sums) below say-below k (o .stands) in
+            record {
+              kind = small e (all .sound) names rows (all .say) below file st past before (h .sums) say-below;
+              outer = held-few e (all .sound) file st past before (h .sums) below say-below k (small e (all .sound) names rows (all .say) below file st past before (h .sums) say-below) (o .stands) line;
+              short = o .short;
+              safe = record { fewer = omega (arith, few-lines before p kept, h .sums .count); near = near };
+            }
+
+        more : breach e room before p ≡ keeps → Goes r′
+        unfolding afterLine recOf bytesOf entryAfter entryOf behind stateAfter behindLine
+        more b =
+            let parent = parent-same e (all .sound) file st past before (h .sums) below say-below k (o .stands) in
+            let n = few-lines before p kept in
+            let sum : st .at + length line + 2 ≡ st .at + (length line + 2) = omega arith in
+            let moved : drop (st .at + length line + 2) file ≡ drop (length line + 2) (drop (st .at) file) =
+            ap (λ x. drop x file) sum ∙ sym (drop-drop (length line + 2) (st .at) file) in
+            record {
+              rec = r;
+              entry = ap₂ (λ x y. record { kind = k; start = x; length = length line; parent = y }) (h .sums .at) parent;
+              reading = record {
+                sums = sums-next e (all .sound) file st past before (h .sums) below say-below k (safe .kind) (o .stands) line
+                    (there e (all .sound) names rows (all .say) below file st past before (h .sums) say-below);
+                rest = ap (λ s. run e room (r ∷ before) (pieces s)) moved ∙ ap (run e room (r ∷ before)) (sym (o .is-rest))
+                    ∙ ap (λ (q : Piece). run e room (recOf e before q ∷ before) (t .rest)) (sym (o .is-piece))
+                    ∙ sym (ap (λ f. afterLine before f later) b) ∙ on;
+                few = omega (arith, h .sums .count, n);
+                close = omega (arith, h .close, o .short);
+                ahead = λ m q.
+                    ap (behind m) (moved ∙ sym (drop-drop 2 (length line) (drop (st .at) file))) ∙ h .ahead (suc m) (omega (arith, q));
+                third = third-next r refl refl;
+              };
+            }
+
+        went-on : On r′
+        unfolding orElse given
+        went-on =
+            record {
+              fits = safe;
+              refuses = λ n f q. broken n f _ (breach-is ∙ ap (λ x. orElse x (given 7 0 (ltb room (suc (length before))))) q)
+                  (answer-is e file st past before (h .sums) n f);
+              full = λ q l. broken 7 0 _
+                  (breach-is ∙ ap (λ x. orElse x (given 7 0 (ltb room (suc (length before))))) q
+                  ∙ ap (given 7 0) (lt-ltb room (suc (length before)) (omega (arith, l, h .sums .count))))
+                  (answer-is e file st past before (h .sums) 7 0);
+              goes = λ q l. more
+                  (breach-is ∙ ap (λ x. orElse x (given 7 0 (ltb room (suc (length before))))) q
+                  ∙ ap (given 7 0) (le-ltb room (suc (length before)) (omega (arith, l, h .sums .count))));
+            }
 
       on-step : Step s
-      unfolding orElse given
+      unfolding orElse
       on-step = go (first early (here e room before p)) refl (t .outcome)
         where
-          go : (f : Found) → first early (here e room before p) ≡ f → Outcome e file (st .at) before r (t .rest) s f → Step s
+          go : (f : Found) → first early (here e room before p) ≡ f → Outcome e below file st before p (t .rest) s f → Step s
           go keeps q o =
-              let b = room-last before p ∙ ap (λ f. orElse f (given 7 0 (ltb room (suc (length before))))) q in
-              record {
-                stops = λ d. absurd (true≢false (sym d ∙ o .going));
-                full = λ _ l. broken 7 0 _ (b ∙ ap (given 7 0) (lt-ltb room (suc (length before)) (omega (arith, l, h .sums .count))))
-                    (gave e file st before (h .sums) 7 0 .answer);
-                goes = λ _ l. more o (b ∙ ap (given 7 0) (le-ltb room (suc (length before)) (omega (arith, l, h .sums .count))));
-              }
+              subst Step (sym (o .is-went)) (record { stops = λ d. absurd (true≢false (sym d)); goes = λ _. went-on q o })
           go (breaks n f) q o =
               stopped s (o .stopped)
-              (broken n f (s .answer) (room-last before p ∙ ap (λ f. orElse f (given 7 0 (ltb room (suc (length before))))) q) (o .answer))
+              (broken n f (s .answer)
+              (last-parts before p
+              ∙ ap (λ f. orElse (orElse f (lookRule e before (p .body) (kindOfLine e (p .body)))) (given 7 0 (ltb room (suc (length before))))) q)
+              (o .answer))
 
     pub step : Step (turnOf names rows below file st)
     unfolding turnOf
@@ -222,4 +282,4 @@ module _ (e : Edition) (names rows : List ℕ) (below : List (List ℕ)) (file :
         go true q = rw q (end-step (leb-true (length file) (st .at) q))
         go false q =
             on-step (turnOf names rows below file st)
-            (turned e (all .sound) names rows (all .say) below file st before (h .sums) say-below room (leb-false (length file) (st .at) q))
+            (turned e (all .sound) names rows (all .say) below file st past before (h .sums) say-below room (leb-false (length file) (st .at) q))

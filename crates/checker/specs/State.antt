@@ -16,6 +16,7 @@ use Rattle.fields.specs.Places.{partOf, keyParts}
 use Rattle.layout.specs.Tables.{kinds, holdsIn}
 use Rattle.checker.specs.declared.state.Path.{Path}
 use Rattle.checker.specs.declared.state.Past.{Past}
+use Rattle.checker.specs.declared.state.Last.{Last}
 use Rattle.checker.specs.declared.state.State.{State}
 
 -- how deep open records can stand: the declarant, a block, an IDREC, a beneficiary
@@ -30,8 +31,14 @@ startState =
       done = false;
       declarant = 0;
       path = record { depth = 0; lines = replicate deepest 0; kinds = replicate deepest 0 };
-      past = record { under = replicate kinds 0; starts = replicate kinds 0; lens = replicate kinds 0 };
     }
+
+unfoldable pub startPast : Past
+startPast = record { under = replicate kinds 0; starts = replicate kinds 0; lens = replicate kinds 0 }
+
+-- what the past has of one kind
+unfoldable pub lastIn : Past → ℕ → Last
+lastIn past k = record { under = getD (past .under) k 0; start = getD (past .starts) k 0; len = getD (past .lens) k 0 }
 
 -- of the open records' lines or kinds, the one of what open record i belongs to
 unfoldable pub above : List ℕ → ℕ → ℕ
@@ -63,24 +70,24 @@ unfoldable pub placeFound : State → ℕ → ℕ → Found
 placeFound st k d = orElse (given 9 1 (eqb k 0)) (orElse (given 10 1 (isLater k)) (given 12 1 (not (standsOn st k d))))
 
 -- it stood under line p last
-unfoldable pub stoodOn : Past → ℕ → ℕ → Bool
-stoodOn past k p = eqb (getD (past .under) k 0) p
+unfoldable pub stoodOn : Last → ℕ → Bool
+stoodOn last p = eqb (last .under) p
 
 -- 21
-unfoldable pub repeatedOn : Past → ℕ → ℕ → Bool
-repeatedOn past k p = standsOnce k && stoodOn past k p
+unfoldable pub repeatedOn : Last → ℕ → ℕ → Bool
+repeatedOn last k p = standsOnce k && stoodOn last p
 
--- the last line of kind k, out of the text that it stands in
-unfoldable pub lastLine : Text → Past → ℕ → Text
-lastLine text past k = partOf text (getD (past .starts) k 0) (getD (past .lens) k 0)
+-- its line, out of the text that it stands in
+unfoldable pub lastLine : Text → Last → Text
+lastLine text last = partOf text (last .start) (last .len)
 
 -- 20, of a record with these fields 2 and 3
-unfoldable pub keyOn : Text → Past → ℕ → ℕ → Text → Text → Bool
-keyOn text past k p second third =
-    hasKey k && (stoodOn past k p && not (keyLess (keyOf k (fields (lastLine text past k))) (keyParts k second third)))
+unfoldable pub keyOn : Text → Last → ℕ → ℕ → Text → Text → Bool
+keyOn text last k p second third =
+    hasKey k && (stoodOn last p && not (keyLess (keyOf k (fields (lastLine text last))) (keyParts k second third)))
 
-unfoldable pub lookFound : Text → Past → ℕ → ℕ → Text → Text → Found
-lookFound text past k p second third = orElse (given 21 1 (repeatedOn past k p)) (given 20 2 (keyOn text past k p second third))
+unfoldable pub lookFound : Text → Last → ℕ → ℕ → Text → Text → Found
+lookFound text last k p second third = orElse (given 21 1 (repeatedOn last k p)) (given 20 2 (keyOn text last k p second third))
 
 unfoldable pub declarantOf : State → ℕ → ℕ
 declarantOf st k = if eqb (st .count) 2 then k else st .declarant
@@ -104,7 +111,6 @@ stateAfter st k d len =
       done = eqb k FIMDirf;
       declarant = declarantOf st k;
       path = pathAfter (st .path) k d (st .count + 1);
-      past = pastAfter (st .past) k (above (st .path .lines) d) (st .at) len;
     }
 
 -- the longest line with its end

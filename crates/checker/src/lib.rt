@@ -6,6 +6,7 @@ mod turn;
 use layout::KINDS;
 use layout::NAME_BYTES;
 use layout::ROW_BYTES;
+use state::Last;
 use turn::Entry;
 ghost use mathlib.Core.Path.{_≡_};
 ghost use Prim.Native.Nat.{_+_, _*_, _/_, _≤_, _<_};
@@ -30,10 +31,9 @@ pub struct Answer {
 
 // The numbers of an entry, in the table's order.
 fn entry_numbers(e: Entry) -> [u32; NUMBERS_AN_ENTRY]
-    requires { ⌜ (e .start < 4294967296) × (e .len < 4294967296) ⌝ }
     ensures { λ r. ⌜ r ≡ entryNumbers (entryOfCode e) ⌝ }
 {
-    [e.kind, e.start as u32, e.len as u32, e.parent]
+    [e.kind, e.start, e.len, e.parent]
 }
 
 // Numbers written from place i on.
@@ -83,18 +83,33 @@ fn walk(
         (now (table .entry)) (now (table .exit)) ⌝ }
 {
     let mut st = state::start();
+    let mut past = state::nothing();
     loop {
         let s = turn::turn(names, rows, below, file, st);
         if s.stop {
             return s.answer;
         }
-        if room <= st.count as usize {
-            let full = turn::refuse(st, 7, 0);
-            return full.answer;
+        let r = s.read;
+        let i = r.kind as usize;
+        let last = Last {
+            under: past.under[i],
+            start: past.starts[i],
+            len: past.lens[i],
+        };
+        let f = turn::looked(file, st, r, last);
+        if f.number != 0 {
+            return turn::refused(st.count, f.number, f.field);
         }
-        let row = entry_numbers(s.entry);
+        if room <= st.count as usize {
+            return turn::refused(st.count, 7, 0);
+        }
+        let e = turn::entry_of(st, r);
+        let row = entry_numbers(e);
         put_entry(table, st.count, &row);
-        st = s.next;
+        past.under[i] = e.parent;
+        past.starts[i] = e.start;
+        past.lens[i] = e.len;
+        st = state::state_after(st, r.kind, r.outer, r.len);
     }
 }
 

@@ -3,12 +3,11 @@
 use layout::KINDS;
 use rules::Finding;
 ghost use mathlib.Core.Path.{_≡_};
-ghost use Prim.Native.Nat.{_+_, _≤_, _<_};
+ghost use Prim.Native.Nat.{_≤_};
 ghost use Rattle.dirf.specs.Limits.{lineLimit};
-ghost use Rattle.layout.specs.Tables.{kinds};
 ghost use Rattle.rules.specs.Findings.{findingOf};
 ghost use Rattle.checker.specs.State.{deepest, startState, above as aboveOf, heldIn, heldAt, orderAt, belowOn, standsOn, placeFound};
-ghost use Rattle.checker.specs.State.{repeatedOn, keyOn, lookFound, declarantOf, pathAfter, pastAfter, Safe, stateAfter};
+ghost use Rattle.checker.specs.State.{startPast, repeatedOn, keyOn, lookFound, declarantOf, pathAfter, Safe, stateAfter};
 
 // How deep records stand open: the declarant, a block, an IDREC, a beneficiary.
 pub(crate) const DEPTH: usize = 4;
@@ -30,14 +29,21 @@ pub(crate) struct Past {
     pub(crate) lens: [u32; KINDS],
 }
 
+// What the past has of one kind.
+pub(crate) struct Last {
+    pub(crate) under: u32,
+    pub(crate) start: u32,
+    pub(crate) len: u32,
+}
+
+// Lines read, where the next begins, whether the last was FIMDirf, the declarant's kind, and the open records. What is remembered by
+// kind goes beside it, since it is looked at once a line and the state goes through every step.
 pub(crate) struct State {
-    // lines read, where the next begins, whether the last was FIMDirf, and the declarant's kind
     pub(crate) count: u32,
     pub(crate) at: usize,
     pub(crate) done: bool,
     pub(crate) declarant: u32,
     pub(crate) path: Path,
-    pub(crate) past: Past,
 }
 
 pub(crate) fn start() -> State
@@ -53,11 +59,16 @@ pub(crate) fn start() -> State
             lines: [0; DEPTH],
             kinds: [0; DEPTH],
         },
-        past: Past {
-            under: [0; KINDS],
-            starts: [0; KINDS],
-            lens: [0; KINDS],
-        },
+    }
+}
+
+pub(crate) fn nothing() -> Past
+    ensures { λ r. ⌜ r ≡ startPast ⌝ }
+{
+    Past {
+        under: [0; KINDS],
+        starts: [0; KINDS],
+        lens: [0; KINDS],
     }
 }
 
@@ -176,52 +187,47 @@ pub(crate) fn place_found(st: State, k: u32, d: usize) -> Finding
 }
 
 // 21, of a record below line p.
-fn repeated(past: Past, k: u32, p: u32) -> bool
-    requires { ⌜ k < kinds ⌝ }
-    ensures { λ r. ⌜ r ≡ repeatedOn past k p ⌝ }
+fn repeated(last: Last, k: u32, p: u32) -> bool
+    ensures { λ r. ⌜ r ≡ repeatedOn last k p ⌝ }
 {
     if layout::stands_once(k) {
-        return past.under[k as usize] == p;
+        return last.under == p;
     }
     false
 }
 
 // 20, of a record below line p with these fields 2 and 3.
-fn key_bad(text: &[u8], past: Past, k: u32, p: u32, second: &[u8], third: &[u8]) -> bool
-    requires { ⌜ k < kinds ⌝ }
-    ensures { λ r. ⌜ r ≡ keyOn (now (text .entry)) past k p (now (second .entry)) (now (third .entry)) ⌝ }
+fn key_bad(text: &[u8], last: Last, k: u32, p: u32, second: &[u8], third: &[u8]) -> bool
+    ensures { λ r. ⌜ r ≡ keyOn (now (text .entry)) last k p (now (second .entry)) (now (third .entry)) ⌝ }
 {
     if fields::key_count(k) == 0 {
         return false;
     }
-    let i = k as usize;
-    if past.under[i] != p {
+    if last.under != p {
         return false;
     }
-    let start = past.starts[i] as usize;
-    let len = past.lens[i] as usize;
-    !fields::key_less(k, fields::part(text, start, len), second, third)
+    let line = fields::part(text, last.start as usize, last.len as usize);
+    !fields::key_less(k, line, second, third)
 }
 
 // 21 and 20.
 pub(crate) fn look_found(
     text: &[u8],
-    past: Past,
+    last: Last,
     k: u32,
     p: u32,
     second: &[u8],
     third: &[u8],
 ) -> Finding
-    requires { ⌜ k < kinds ⌝ }
-    ensures { λ r. ⌜ r ≡ findingOf (lookFound (now (text .entry)) past k p (now (second .entry)) (now (third .entry))) ⌝ }
+    ensures { λ r. ⌜ r ≡ findingOf (lookFound (now (text .entry)) last k p (now (second .entry)) (now (third .entry))) ⌝ }
 {
-    if repeated(past, k, p) {
+    if repeated(last, k, p) {
         return Finding {
             number: 21,
             field: 1,
         };
     }
-    if key_bad(text, past, k, p, second, third) {
+    if key_bad(text, last, k, p, second, third) {
         return Finding {
             number: 20,
             field: 2,
@@ -261,35 +267,19 @@ fn path_after(path: Path, k: u32, d: usize, n: u32) -> Path
     p
 }
 
-fn past_after(past: Past, k: u32, parent: u32, start: u32, len: u32) -> Past
-    requires { ⌜ k < kinds ⌝ }
-    ensures { λ r. ⌜ r ≡ pastAfter past k parent start len ⌝ }
-{
-    let i = k as usize;
-    let mut p = past;
-    p.under[i] = parent;
-    p.starts[i] = start;
-    p.lens[i] = len;
-    p
-}
-
 // The state after a line that was taken.
 pub(crate) fn state_after(st: State, k: u32, d: usize, len: usize) -> State
-    requires { ⌜ (k < kinds) × ((d ≤ deepest) × (Safe st × (len ≤ lineLimit))) ⌝ }
+    requires { ⌜ (d ≤ deepest) × (Safe st × (len ≤ lineLimit)) ⌝ }
     ensures { λ r. ⌜ r ≡ stateAfter st k d len ⌝ }
 {
     let n = st.count + 1;
     let at = st.at;
     let path = st.path;
-    let past = st.past;
-    let lines = path.lines;
-    let parent = above(lines, d);
     State {
         count: n,
         at: at + len + 2,
         done: k == 73,
         declarant: declarant_of(st, k),
         path: path_after(path, k, d, n),
-        past: past_after(past, k, parent, at as u32, len as u32),
     }
 }

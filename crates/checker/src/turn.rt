@@ -1,8 +1,8 @@
 // One line: document 01's order of numbers, part by part. A step refuses, or calls the next.
 use crate::Answer;
 use crate::lines;
-use crate::lines::Line;
 use crate::state;
+use crate::state::Last;
 use crate::state::State;
 use fields::Places;
 use layout::KINDS;
@@ -11,12 +11,11 @@ use layout::ROW_BYTES;
 use rules::Finding;
 ghost use mathlib.Core.Path.{_≡_};
 ghost use Prim.Native.Nat.{_≤_, _<_};
-ghost use Rattle.dirf.specs.Limits.{lineLimit, linesLimit};
+ghost use Rattle.dirf.specs.Limits.{linesLimit};
 ghost use Rattle.layout.specs.Tables.{kinds};
 ghost use Rattle.rules.specs.Findings.{findingOf};
 ghost use Rattle.checker.specs.State.{deepest, Near, Safe};
-ghost use Rattle.checker.specs.Turn.{haltAt, halt, took, Fits, lookStep, filledFound, fillStep, placeStep, recordOf};
-ghost use Rattle.checker.specs.Turn.{barStep, lineStep, turnOf};
+ghost use Rattle.checker.specs.Turn.{refusedAt, haltAt, halt, went, lookedFound, entryOf, Fits, filledFound, recordOf, readStep, recordStep, lineStep, turnOf};
 
 // Document 01: "At most 65,536 lines."
 const LINES: u32 = 65536;
@@ -24,67 +23,72 @@ const LINES: u32 = 65536;
 // An entry of the record table.
 pub(crate) struct Entry {
     pub(crate) kind: u32,
-    pub(crate) start: usize,
-    pub(crate) len: usize,
+    pub(crate) start: u32,
+    pub(crate) len: u32,
     pub(crate) parent: u32,
 }
 
-// A line read as a record: its kind, how many open records stand outside it, its length, and where its fields stand.
+// A line read as a record: its kind, how many open records stand outside it, its length, and where fields 2 and 3 stand in it.
 pub(crate) struct Record {
     pub(crate) kind: u32,
     pub(crate) outer: usize,
     pub(crate) len: usize,
-    pub(crate) places: Places,
+    pub(crate) start2: usize,
+    pub(crate) len2: usize,
+    pub(crate) start3: usize,
+    pub(crate) len3: usize,
 }
 
-// A turn stops with an answer, or goes on with an entry and the next state.
+// A turn stops with an answer, or has read a record that keeps every rule but 21, 20 and 7.
 pub(crate) struct Stepped {
     pub(crate) stop: bool,
     pub(crate) answer: Answer,
-    pub(crate) entry: Entry,
-    pub(crate) next: State,
+    pub(crate) read: Record,
 }
 
-fn stop(st: State, number: u32, line: u32, field: u32, entries: u32) -> Stepped
-    ensures { λ r. ⌜ r ≡ haltAt st number line field entries ⌝ }
+const NO_RECORD: Record = Record {
+    kind: 0,
+    outer: 0,
+    len: 0,
+    start2: 0,
+    len2: 0,
+    start3: 0,
+    len3: 0,
+};
+
+// A refusal after so many lines.
+pub(crate) fn refused(count: u32, number: u32, field: u32) -> Answer
+    requires { ⌜ count ≤ linesLimit ⌝ }
+    ensures { λ r. ⌜ r ≡ refusedAt count number field ⌝ }
 {
-    Stepped {
-        stop: true,
-        answer: Answer {
-            number: number,
-            line: line,
-            field: field,
-            entries: entries,
-        },
-        entry: Entry {
-            kind: 0,
-            start: 0,
-            len: 0,
-            parent: 0,
-        },
-        next: st,
+    Answer {
+        number: number,
+        line: count + 1,
+        field: field,
+        entries: count,
     }
 }
 
-// A refusal at this line.
-pub(crate) fn refuse(st: State, number: u32, field: u32) -> Stepped
-    requires { ⌜ st .count ≤ linesLimit ⌝ }
-    ensures { λ r. ⌜ r ≡ halt st number field ⌝ }
+fn stop(answer: Answer) -> Stepped
+    ensures { λ s. ⌜ s ≡ haltAt answer ⌝ }
 {
-    let n = st.count;
-    stop(st, number, n + 1, field, n)
+    Stepped {
+        stop: true,
+        answer: answer,
+        read: NO_RECORD,
+    }
 }
 
-// The record is taken.
-fn take(st: State, r: Record) -> Stepped
-    requires { ⌜ Fits st r ⌝ }
-    ensures { λ s. ⌜ s ≡ took st r ⌝ }
+fn refuse(st: State, number: u32, field: u32) -> Stepped
+    requires { ⌜ st .count ≤ linesLimit ⌝ }
+    ensures { λ s. ⌜ s ≡ halt st number field ⌝ }
 {
-    let at = st.at;
-    let path = st.path;
-    let lines = path.lines;
-    let parent = state::above(lines, r.outer);
-    let next = state::state_after(st, r.kind, r.outer, r.len);
+    stop(refused(st.count, number, field))
+}
+
+fn go_on(r: Record) -> Stepped
+    ensures { λ s. ⌜ s ≡ went r ⌝ }
+{
     Stepped {
         stop: false,
         answer: Answer {
@@ -93,35 +97,39 @@ fn take(st: State, r: Record) -> Stepped
             field: 0,
             entries: 0,
         },
-        entry: Entry {
-            kind: r.kind,
-            start: at,
-            len: r.len,
-            parent: parent,
-        },
-        next: next,
+        read: r,
     }
 }
 
 // 21 and 20
-fn looked(file: &[u8], st: State, r: Record) -> Stepped
-    requires { ⌜ Fits st r ⌝ }
-    ensures { λ s. ⌜ s ≡ lookStep (now (file .entry)) st r ⌝ }
+pub(crate) fn looked(file: &[u8], st: State, r: Record, last: Last) -> Finding
+    requires { ⌜ r .outer ≤ deepest ⌝ }
+    ensures { λ f. ⌜ f ≡ findingOf (lookedFound (now (file .entry)) st r last) ⌝ }
 {
     let at = st.at;
     let line = fields::part(file, at, r.len);
-    let p = r.places;
-    let second = fields::part(line, p.starts[1], p.lens[1]);
-    let third = fields::part(line, p.starts[2], p.lens[2]);
+    let second = fields::part(line, r.start2, r.len2);
+    let third = fields::part(line, r.start3, r.len3);
     let path = st.path;
     let lines = path.lines;
-    let past = st.past;
     let parent = state::above(lines, r.outer);
-    let f = state::look_found(file, past, r.kind, parent, second, third);
-    if f.number != 0 {
-        return refuse(st, f.number, f.field);
+    state::look_found(file, last, r.kind, parent, second, third)
+}
+
+// The entry of a record that is taken.
+pub(crate) fn entry_of(st: State, r: Record) -> Entry
+    requires { ⌜ Fits st r ⌝ }
+    ensures { λ e. ⌜ e ≡ entryOf st r ⌝ }
+{
+    let at = st.at;
+    let path = st.path;
+    let lines = path.lines;
+    Entry {
+        kind: r.kind,
+        start: at as u32,
+        len: r.len as u32,
+        parent: state::above(lines, r.outer),
     }
-    take(st, r)
 }
 
 // 11, then 13 to 19
@@ -143,81 +151,67 @@ fn filled_found(
     rules::contents_found(line, p, layout::name(names, k), rows, k)
 }
 
-fn filled(
-    names: &[u8; NAME_BYTES],
-    rows: &[u8; ROW_BYTES],
-    file: &[u8],
-    st: State,
-    r: Record,
-) -> Stepped
-    requires { ⌜ Fits st r ⌝ }
-    ensures { λ s. ⌜ s ≡ fillStep (now (names .entry)) (now (rows .entry)) (now (file .entry)) st r ⌝ }
-{
-    let at = st.at;
-    let p = r.places;
-    let f = filled_found(names, rows, fields::part(file, at, r.len), p, r.kind);
-    if f.number != 0 {
-        return refuse(st, f.number, f.field);
-    }
-    looked(file, st, r)
-}
-
-// 9, 10 and 12
-fn placed(
-    names: &[u8; NAME_BYTES],
-    rows: &[u8; ROW_BYTES],
-    file: &[u8],
-    st: State,
-    r: Record,
-) -> Stepped
-    requires { ⌜ Fits st r ⌝ }
-    ensures { λ s. ⌜ s ≡ placeStep (now (names .entry)) (now (rows .entry)) (now (file .entry)) st r ⌝ }
-{
-    let f = state::place_found(st, r.kind, r.outer);
-    if f.number != 0 {
-        return refuse(st, f.number, f.field);
-    }
-    filled(names, rows, file, st, r)
-}
-
 // The line as a record: its kind by its identifier, and its place by its kind.
 fn record_of(
     names: &[u8; NAME_BYTES],
     below: &[[u8; KINDS]; KINDS],
     line: &[u8],
     st: State,
-    l: Line,
+    p: Places,
 ) -> Record
     requires { ⌜ st .path .depth ≤ deepest ⌝ }
-    ensures { λ r. ⌜ (r ≡ recordOf (now (names .entry)) (now (below .entry)) (now (line .entry)) st l) × ((r .kind < kinds) × (r .outer ≤ deepest)) ⌝ }
+    ensures { λ r. ⌜ (r ≡ recordOf (now (names .entry)) (now (below .entry)) (now (line .entry)) st p) × ((r .kind < kinds) × (r .outer ≤ deepest)) ⌝ }
 {
     let k = layout::kind_of(names, fields::field(line, 1));
-    let p = l.places;
     Record {
         kind: k,
         outer: state::held_at(below, st, k),
-        len: l.len,
-        places: p,
+        len: line.len(),
+        start2: p.starts[1],
+        len2: p.lens[1],
+        start3: p.starts[2],
+        len3: p.lens[2],
     }
 }
 
+// 9, 10 and 12, then 11 and 13 to 19
+fn read(
+    names: &[u8; NAME_BYTES],
+    rows: &[u8; ROW_BYTES],
+    line: &[u8],
+    st: State,
+    p: Places,
+    r: Record,
+) -> Stepped
+    requires { ⌜ Safe st ⌝ }
+    ensures { λ s. ⌜ s ≡ readStep (now (names .entry)) (now (rows .entry)) (now (line .entry)) st p r ⌝ }
+{
+    let f = state::place_found(st, r.kind, r.outer);
+    if f.number != 0 {
+        return refuse(st, f.number, f.field);
+    }
+    let g = filled_found(names, rows, line, p, r.kind);
+    if g.number != 0 {
+        return refuse(st, g.number, g.field);
+    }
+    go_on(r)
+}
+
 // 8
-fn barred(
+fn recorded(
     names: &[u8; NAME_BYTES],
     rows: &[u8; ROW_BYTES],
     below: &[[u8; KINDS]; KINDS],
-    file: &[u8],
+    line: &[u8],
     st: State,
-    l: Line,
+    p: Places,
 ) -> Stepped
-    requires { ⌜ Safe st × (l .len ≤ lineLimit) ⌝ }
-    ensures { λ s. ⌜ s ≡ barStep (now (names .entry)) (now (rows .entry)) (now (below .entry)) (now (file .entry)) st l ⌝ }
+    requires { ⌜ Safe st ⌝ }
+    ensures { λ s. ⌜ s ≡ recordStep (now (names .entry)) (now (rows .entry)) (now (below .entry)) (now (line .entry)) st p ⌝ }
 {
-    let at = st.at;
-    let line = fields::part(file, at, l.len);
     if lines::ends_in_bar(line) {
-        let r = record_of(names, below, line, st, l);
-        return placed(names, rows, file, st, r);
+        let r = record_of(names, below, line, st, p);
+        return read(names, rows, line, st, p, r);
     }
     refuse(st, 8, 0)
 }
@@ -238,7 +232,8 @@ fn lined(
     if l.number != 0 {
         return refuse(st, l.number, 0);
     }
-    barred(names, rows, below, file, st, l)
+    let p = l.places;
+    recorded(names, rows, below, fields::part(file, at, l.len), st, p)
 }
 
 // The end, 1, 2 and 3.
@@ -257,7 +252,12 @@ pub(crate) fn turn(
     let done = st.done;
     if file.len() <= at {
         if done {
-            return stop(st, 0, n, 0, n);
+            return stop(Answer {
+                number: 0,
+                line: n,
+                field: 0,
+                entries: n,
+            });
         }
         return refuse(st, 1, 0);
     }

@@ -28,7 +28,7 @@ use Rattle.dirf.proofs.LastOfKind.{lastOf}
 use Rattle.fields.specs.Places.{partOf}
 use Rattle.layout.specs.Tables.{kinds}
 use Rattle.layout.specs.LaidOut.{SayBelow}
-use Rattle.checker.specs.State.{deepest, above, heldAt, lastLine, declarantOf, pathAfter, pastAfter, stateAfter}
+use Rattle.checker.specs.State.{deepest, above, heldAt, lastIn, lastLine, declarantOf, pathAfter, pastAfter, stateAfter}
 use Rattle.checker.specs.declared.state.Path.{Path}
 use Rattle.checker.specs.declared.state.Past.{Past}
 use Rattle.checker.specs.declared.state.State.{State}
@@ -89,7 +89,7 @@ module _ (p : Path) (os up : List Open) (is : PathIs p os) (stack : Stack p up) 
 module _ (text : Text) (p : Past) (before : List Rec) (m : Remembers text p before) (r : Rec) (start len : ℕ) (small : r .kind < kinds)
     (there : partOf text start len ≡ r .line) where
   past-next : Remembers text (pastAfter p (r .kind) (r .parent) start len) (r ∷ before)
-  unfolding pastAfter lastLine lastOf parentIn
+  unfolding pastAfter lastIn lastLine lastOf parentIn
   past-next =
       record {
         sizes = (
@@ -143,18 +143,24 @@ level-most k = go (isValue k) refl
     go true t = omega (arith, value-level (isIn-says k values .0 t))
     go false t = omega (arith, opens-level k t)
 
-module _ (e : Edition) (sound : Sound e) (text : Text) (st : State) (before : List Rec) (h : Sums e text st before)
+module _ (e : Edition) (sound : Sound e) (text : Text) (st : State) (past : Past) (before : List Rec) (h : Sums e text st past before)
     (below : List (List ℕ)) (say : 3 ≤ length before → SayBelow e (declarant before) below)
     (k : ℕ) (small : k < kinds) (stands : mayStand e before k ≡ true) (line : Text) where
   abbrev r : Rec
   r = record { kind = k; line = line; parent = parentOf e before k }
 
-  pub sums-next : partOf text (st .at) (length line) ≡ line → Sums e text (stateAfter st k (heldAt below st k) (length line)) (r ∷ before)
+  pub held-few : heldAt below st k ≤ deepest
+  held-few =
+      omega (arith, held-same e sound text st past before h below say k stands .0, open-depth (placed e sound (h .history) k .known), level-most k)
+
+  pub sums-next : partOf text (st .at) (length line) ≡ line
+      → Sums e text (stateAfter st k (heldAt below st k) (length line))
+      (pastAfter past k (above (st .path .lines) (heldAt below st k)) (st .at) (length line)) (r ∷ before)
   unfolding stateAfter closed bytesOf opened parentOf isValue opensNothing
   sums-next there =
       let q : Placed e (declarant before) k before (suc (length before)) (opened before) (place e before k .up) =
       placed e sound (h .history) k in
-      let held = held-same e sound text st before h below say k stands in
+      let held = held-same e sound text st past before h below say k stands in
       record {
         count = rw (h .count) (add-one (length before));
         at = rw (h .at);
@@ -163,7 +169,7 @@ module _ (e : Edition) (sound : Sound e) (text : Text) (st : State) (before : Li
         path = rw (held .0, q .found, h .count, add-one (length before))
             (path-next (st .path) (opened before) (place e before k .up) (h .path) (held .1) k (suc (length before))
             (omega (arith, open-depth (q .known), level-most k)) (λ t. omega (arith, open-depth (q .known), opens-level k t)));
-        past = rw (parent-same e sound text st before h below say k stands)
-            (past-next text (st .past) before (h .past) r (st .at) (length line) small there);
+        past = rw (parent-same e sound text st past before h below say k stands)
+            (past-next text past before (h .past) r (st .at) (length line) small there);
         history = next stands refl (h .history);
       }

@@ -22,7 +22,7 @@ use Rattle.dirf.proofs.OpenRecords.{Holder, nests, placed}
 use Rattle.dirf.proofs.LastOfKind.{lastOf}
 use Rattle.layout.specs.Tables.{kinds, holdsIn}
 use Rattle.layout.specs.LaidOut.{SayBelow}
-use Rattle.checker.specs.State.{deepest, startState, above, heldIn, heldAt, orderAt, belowOn, standsOn, lastLine}
+use Rattle.checker.specs.State.{deepest, startState, startPast, lastIn, above, heldIn, heldAt, orderAt, belowOn, standsOn, lastLine}
 use Rattle.checker.specs.declared.state.Path.{Path}
 use Rattle.checker.specs.declared.state.Past.{Past}
 use Rattle.checker.specs.declared.state.State.{State}
@@ -52,15 +52,15 @@ parentIn (some r) = r .parent
 pub record Remembers (text : Text) (p : Past) (before : List Rec) : Type 0 where
   pub sizes : (length (p .under) ≡ kinds) × (length (p .starts) ≡ kinds) × (length (p .lens) ≡ kinds)
   pub under : (k : ℕ) → k < kinds → getD (p .under) k 0 ≡ parentIn (lastOf before k)
-  pub line : (k : ℕ) → k < kinds → (r : Rec) → lastOf before k ≡ some r → lastLine text p k ≡ r .line
+  pub line : (k : ℕ) → k < kinds → (r : Rec) → lastOf before k ≡ some r → lastLine text (lastIn p k) ≡ r .line
 
-pub record Sums (e : Edition) (text : Text) (st : State) (before : List Rec) : Type 0 where
+pub record Sums (e : Edition) (text : Text) (st : State) (p : Past) (before : List Rec) : Type 0 where
   pub count : st .count ≡ length before
   pub at : st .at ≡ bytesOf before
   pub done : st .done ≡ closed before
   pub declares : st .declarant ≡ declarant before
   pub path : PathIs (st .path) (opened before)
-  pub past : Remembers text (st .past) before
+  pub past : Remembers text p before
   pub history : History e before
 
 none-seen : (n k : ℕ) → _≡_ {A = ℕ} (getD (replicate n 0) k 0) 0
@@ -71,8 +71,8 @@ none-seen (suc n) (suc k) = none-seen n k
 no-rec : {r : Rec} → _≡_ {A = Option Rec} none (some r) → ⊥
 no-rec q = let z : _≡_ {A = ℕ} 0 1 = cc in absurd (omega arith)
 
-pub sums-start : (e : Edition) (text : Text) → Sums e text startState []
-unfolding startState bytesOf closed declarant opened lastOf parentIn
+pub sums-start : (e : Edition) (text : Text) → Sums e text startState startPast []
+unfolding startState startPast bytesOf closed declarant opened lastOf parentIn
 sums-start e text =
     record {
       count = refl;
@@ -120,7 +120,7 @@ module _ (e : Edition) (d : ℕ) (below : List (List ℕ)) (say : SayBelow e d b
       go true r = record { deep = refl; stack = s; inside = i }
       go false r = r
 
-module _ (e : Edition) (sound : Sound e) (text : Text) (st : State) (before : List Rec) (h : Sums e text st before)
+module _ (e : Edition) (sound : Sound e) (text : Text) (st : State) (past : Past) (before : List Rec) (h : Sums e text st past before)
     (below : List (List ℕ)) (say : 3 ≤ length before → SayBelow e (declarant before) below) (k : ℕ) where
   located : 3 ≤ length before → Located (st .path) (place e before k) (heldAt below st k)
   unfolding place heldAt opening

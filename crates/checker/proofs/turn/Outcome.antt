@@ -1,12 +1,11 @@
--- A turn over the state gives what document 01's rules but the last, 7, give over the records: part by part, in their order.
+-- A turn over the state gives what document 01's rules give over the records, up to 21, 20 and 7: part by part, in their order.
 use Prim.Native.Nat.{ℕ, zero, suc, _+_, _≤_, _<_}
 use mathlib.Core.Path.{_≡_, refl, sym, ap, ap₂, _∙_, subst}
 use mathlib.Core.Bool.{Bool, true, false, not, _&&_}
 use mathlib.Core.List.{List, _∷_, _++_}
 use native.Mathlib.Omega.{arith}
 use lib.Dec.{eqb, ltb, leb}
-use lib.ListN.{length, drop, length-drop}
-use lib.Seq.{drop-drop}
+use lib.ListN.{length, getD, drop, length-drop}
 use borrow.Author.Tests.{leb-true, leb-false, lt-leb, lt-ltb, le-ltb, eqb-true, eq-eqb, ne-eqb, not-false}
 use Rattle.dirf.specs.Bytes.{if_then_else_, Text, isEmpty, endsWith}
 use Rattle.dirf.specs.Limits.{bar, lineLimit, linesLimit}
@@ -18,7 +17,6 @@ use Rattle.dirf.specs.Rules.{Found, keeps, breaks, given, orElse, Rule, ask, fi
 use Rattle.dirf.specs.Tree.{Rec, mayStand, parentOf, declarant}
 use Rattle.dirf.specs.Keys.{hasKey, lastUnder, isSome, notAfter}
 use Rattle.dirf.specs.Order.{Here, here, kindOfLine, closed, limits, lineEnds, kind, place, fieldCount, contents, lookBack, line-opens}
-use Rattle.dirf.specs.Check.{bytesOf, recOf}
 use Rattle.dirf.specs.Theorems.Sound.{Sound}
 use Rattle.dirf.proofs.Asked.{given-false, or-else-left, or-else-right}
 use Rattle.dirf.proofs.RulesPut.{or-assoc}
@@ -29,21 +27,20 @@ use Rattle.layout.specs.Tables.{kinds, namesIn, nameIn, rowsIn, countIn}
 use Rattle.layout.specs.LaidOut.{Say, SayBelow}
 use Rattle.layout.proofs.Laws.{kind-small, count-is, few-rows}
 use Rattle.rules.specs.Findings.{contentsFound}
-use Rattle.checker.specs.Lines.{numberAt, lineAt, afterLine}
-use Rattle.checker.specs.State.{above, heldAt, placeFound, lookFound, stateAfter}
-use Rattle.checker.specs.Turn.{halt, foundStep, took, lookStep, filledFound, fillStep, placeStep, recordOf, barStep, scanStep, lineStep, turnOf}
-use Rattle.checker.specs.declared.lines.Line.{Line}
+use Rattle.checker.specs.Lines.{numberAt, lineAt}
+use Rattle.checker.specs.State.{heldAt, lastIn, placeFound, lookFound}
+use Rattle.checker.specs.Turn.{refusedAt, halt, foundStep, went, lookedFound, filledFound, readStep, recordOf, recordStep, lineStep, turnOf}
+use Rattle.checker.specs.declared.state.Past.{Past}
 use Rattle.checker.specs.declared.state.State.{State}
 use Rattle.checker.specs.declared.turn.Record.{Record}
 use Rattle.checker.specs.declared.turn.Stepped.{Stepped}
 use Rattle.checker.proofs.lines.FirstPiece.{scanFound, foundOf, Read, read, line-is}
 use Rattle.checker.proofs.state.Sums.{Sums, parent-same, stands-same}
 use Rattle.checker.proofs.state.LookingBack.{look-same}
-use Rattle.checker.proofs.state.Next.{sums-next}
 
--- the order of numbers but for its last part, the room
+-- the order of numbers but for its last parts, look back and room
 abbrev pub early : List (Rule Here)
-early = limits ++ lineEnds ++ kind ++ place ++ over (λ h. h .contents) (fieldCount ++ contents) ++ lookBack
+early = limits ++ lineEnds ++ kind ++ place ++ over (λ h. h .contents) (fieldCount ++ contents)
 
 pub or-keeps : (x : Found) → orElse x keeps ≡ x
 unfolding orElse
@@ -61,14 +58,14 @@ module _ (e : Edition) (before : List Rec) (line : Text) (k : ℕ) where
       orElse (given 11 0 (not (eqb (length (fields line)) (length (rowsOf e k))))) (contentsFound k (nameOf e k) (rowsOf e k) (fields line))
 
   -- 21 and 20
-  abbrev lookRule : Found
+  abbrev pub lookRule : Found
   lookRule =
       orElse (given 21 1 (standsOnce k && isSome (lastUnder before (parentOf e before k) k)))
       (given 20 2 (hasKey k && notAfter k (fields line) (lastUnder before (parentOf e before k) k)))
 
   -- 8 and on, of a line that is whole
   abbrev lateRule : Found
-  lateRule = orElse (given 8 0 (not (endsWith bar line))) (orElse placeRule (orElse fillRule lookRule))
+  lateRule = orElse (given 8 0 (not (endsWith bar line))) (orElse placeRule fillRule)
 
 abbrev limitsRule : List Rec → Found → Found
 limitsRule before later = orElse (given 2 0 (closed before)) (orElse (given 3 0 (ltb linesLimit (suc (length before)))) later)
@@ -78,36 +75,54 @@ early-is : (e : Edition) (room : ℕ) (before : List Rec) (p : Piece)
 unfolding first ask askedOf over line-opens scanFound contentsFound
 early-is e room before p = simp (← or-assoc, or-keeps)
 
--- a line was taken
-pub record Took (e : Edition) (file : Text) (at : ℕ) (before : List Rec) (r : Rec) (rest : List Piece) (s : Stepped) : Type 0 where
-  pub going : s .stop ≡ false
-  pub entry : s .entry ≡ record { kind = r .kind; start = bytesOf before; len = length (r .line); parent = r .parent }
-  pub sums : Sums e file (s .next) (r ∷ before)
-  pub on : drop (s .next .at) file ≡ afterLine (drop at file)
-  pub left : pieces (drop (s .next .at) file) ≡ rest
-  pub line : r .line ≡ clean (drop at file)
-  pub short : length (r .line) ≤ lineLimit
-
 -- a line was refused
 pub record Gave (before : List Rec) (s : Stepped) (n f : ℕ) : Type 0 where
   pub stopped : s .stop ≡ true
   pub answer : s .answer ≡ record { number = n; line = suc (length before); field = f; entries = length before }
 
-abbrev pub Outcome : Edition → Text → ℕ → List Rec → Rec → List Piece → Stepped → Found → Type 0
-Outcome e file at before r rest s keeps = Took e file at before r rest s
-Outcome e file at before r rest s (breaks n f) = Gave before s n f
+module _ (e : Edition) (below : List (List ℕ)) (file : Text) (st : State) (before : List Rec) where
+  abbrev line : Text
+  line = clean (drop (st .at) file)
 
-module _ (e : Edition) (file : Text) (st : State) (before : List Rec) (h : Sums e file st before) where
-  pub gave : (n f : ℕ) → Gave before (halt st n f) n f
-  gave n f =
+  abbrev k : ℕ
+  k = kindOfLine e line
+
+  -- the record that the line is read as
+  abbrev pub readAs : Record
+  readAs =
       record {
-        stopped = refl;
-        answer = ap₂ (λ x y. record { number = n; line = x; field = f; entries = y }) (omega (arith, h .count)) (h .count);
+        kind = k;
+        outer = heldAt below st k;
+        len = length line;
+        start2 = getD (placesOf line .starts) 1 0;
+        len2 = getD (placesOf line .lens) 1 0;
+        start3 = getD (placesOf line .starts) 2 0;
+        len3 = getD (placesOf line .lens) 2 0;
       }
 
-  module _ (r : Rec) (rest : List Piece) where
+  -- a line was read as a record
+  pub record Took (p : Piece) (rest : List Piece) (s : Stepped) : Type 0 where
+    pub is-piece : p ≡ record { body = line; ended = true }
+    pub is-rest : rest ≡ pieces (drop (length line + 2) (drop (st .at) file))
+    pub is-went : s ≡ went readAs
+    pub short : length line ≤ lineLimit
+    pub stands : mayStand e before k ≡ true
+    pub few : length (fields line) ≤ mostFields
+
+  abbrev pub Outcome : Piece → List Piece → Stepped → Found → Type 0
+  Outcome p rest s keeps = Took p rest s
+  Outcome p rest s (breaks n f) = Gave before s n f
+
+module _ (e : Edition) (file : Text) (st : State) (past : Past) (before : List Rec) (h : Sums e file st past before) where
+  pub answer-is : (n f : ℕ) → refusedAt (st .count) n f ≡ record { number = n; line = suc (length before); field = f; entries = length before }
+  answer-is n f = ap₂ (λ x y. record { number = n; line = x; field = f; entries = y }) (omega (arith, h .count)) (h .count)
+
+  gave : (n f : ℕ) → Gave before (halt st n f) n f
+  gave n f = record { stopped = refl; answer = answer-is n f }
+
+  module _ (below : List (List ℕ)) (p : Piece) (rest : List Piece) where
     abbrev Comes : Stepped → Found → Type 0
-    Comes = Outcome e file (st .at) before r rest
+    Comes = Outcome e below file st before p rest
 
     -- a rule that stops where its test holds, one that stops where it does not, and a part that stops where it finds something
     try : (n f : ℕ) (t u : Bool) (s : Stepped) (g : Found) → t ≡ u → (u ≡ false → Comes s g)
@@ -133,120 +148,97 @@ module _ (e : Edition) (file : Text) (st : State) (before : List Rec) (h : Sums 
         go (breaks n f) o = gave n f
 
 module _ (e : Edition) (sound : Sound e) (names rows : List ℕ) (say : Say e names rows) (below : List (List ℕ)) (file : Text) (st : State)
-    (before : List Rec) (h : Sums e file st before) (say-below : 3 ≤ length before → SayBelow e (declarant before) below) where
-  abbrev line : Text
-  line = clean (drop (st .at) file)
+    (past : Past) (before : List Rec) (h : Sums e file st past before) (say-below : 3 ≤ length before → SayBelow e (declarant before) below) where
+  abbrev ln : Text
+  ln = line e below file st before
 
-  abbrev k : ℕ
-  k = kindOfLine e line
+  abbrev kd : ℕ
+  kd = k e below file st before
 
-  abbrev r : Rec
-  r = record { kind = k; line = line; parent = parentOf e before k }
-
-  abbrev r′ : Record
-  r′ = record { kind = k; outer = heldAt below st k; len = length line; places = placesOf line }
-
-  there : partOf file (st .at) (length line) ≡ line
+  pub there : partOf file (st .at) (length ln) ≡ ln
   unfolding partOf
   there = line-is (drop (st .at) file)
 
-  kind-is : kindIn (namesIn names) (fieldOf 1 line) ≡ k
+  kind-is : kindIn (namesIn names) (fieldOf 1 ln) ≡ kd
   unfolding kindOfLine fieldOf
-  kind-is = say .kind (field 1 (fields line))
+  kind-is = say .kind (field 1 (fields ln))
 
-  small : k < kinds
+  pub small : kd < kinds
   unfolding kindOfLine
-  small = kind-small say (field 1 (fields line))
+  small = kind-small say (field 1 (fields ln))
 
-  place-is : placeFound st k (heldAt below st k) ≡ placeRule e before line k
+  place-is : placeFound st kd (heldAt below st kd) ≡ placeRule e before ln kd
   unfolding placeFound
   place-is =
-      ap (λ t. orElse (given 9 1 (eqb k 0)) (orElse (given 10 1 (isLater k)) (given 12 1 (not t)))) (stands-same e sound file st before h below say-below k)
+      ap (λ t. orElse (given 9 1 (eqb kd 0)) (orElse (given 10 1 (isLater kd)) (given 12 1 (not t))))
+      (stands-same e sound file st past before h below say-below kd)
 
-  stands : placeRule e before line k ≡ keeps → mayStand e before k ≡ true
-  stands q = not-false (mayStand e before k) (given-false 12 1 _ (or-else-right _ _ (or-else-right _ _ q)))
+  may : placeRule e before ln kd ≡ keeps → mayStand e before kd ≡ true
+  may q = not-false (mayStand e before kd) (given-false 12 1 _ (or-else-right _ _ (or-else-right _ _ q)))
 
-  few : fillRule e before line k ≡ keeps → length (fields line) ≤ mostFields
-  few q =
-      let n = eqb-true (length (fields line)) (length (rowsOf e k)) (not-false _ (given-false 11 0 _ (or-else-left _ _ q))) in
-      omega (arith, few-rows say k, n)
+  few-fields : fillRule e before ln kd ≡ keeps → length (fields ln) ≤ mostFields
+  few-fields q =
+      let n = eqb-true (length (fields ln)) (length (rowsOf e kd)) (not-false _ (given-false 11 0 _ (or-else-left _ _ q))) in
+      omega (arith, few-rows say kd, n)
 
-  fill-is : filledFound names rows line (placesOf line) k ≡ fillRule e before line k
+  fill-is : filledFound names rows ln (placesOf ln) kd ≡ fillRule e before ln kd
   unfolding filledFound orElse given
   fill-is =
-      ap (λ n. orElse (given 11 0 (not (eqb n (countIn rows k)))) (contentsFound k (nameIn names k) (rowsIn rows k) (cellsAt line (placesOf line))))
-      (places-count line)
-      ∙ rw (count-is say k, say .name k, say .fields k) (go (eqb (length (fields line)) (length (rowsOf e k))) refl)
+      ap (λ n. orElse (given 11 0 (not (eqb n (countIn rows kd)))) (contentsFound kd (nameIn names kd) (rowsIn rows kd) (cellsAt ln (placesOf ln))))
+      (places-count ln)
+      ∙ rw (count-is say kd, say .name kd, say .fields kd) (go (eqb (length (fields ln)) (length (rowsOf e kd))) refl)
     where
       asked : List Text → Found
-      asked cells = contentsFound k (nameOf e k) (rowsOf e k) cells
+      asked cells = contentsFound kd (nameOf e kd) (rowsOf e kd) cells
 
-      go : (t : Bool) → eqb (length (fields line)) (length (rowsOf e k)) ≡ t
-          → orElse (given 11 0 (not t)) (asked (cellsAt line (placesOf line))) ≡ orElse (given 11 0 (not t)) (asked (fields line))
+      go : (t : Bool) → eqb (length (fields ln)) (length (rowsOf e kd)) ≡ t
+          → orElse (given 11 0 (not t)) (asked (cellsAt ln (placesOf ln))) ≡ orElse (given 11 0 (not t)) (asked (fields ln))
       go true t =
-          ap asked (places-cells line (omega (arith, few-rows say k, eqb-true (length (fields line)) (length (rowsOf e k)) t)))
+          ap asked (places-cells ln (omega (arith, few-rows say kd, eqb-true (length (fields ln)) (length (rowsOf e kd)) t)))
       go false t = refl
 
+  -- 21 and 20 of the record that was read
+  pub looked-is : mayStand e before kd ≡ true → length (fields ln) ≤ mostFields
+      → lookedFound file st (readAs e below file st before) (lastIn past kd) ≡ lookRule e before ln kd
+  unfolding lookedFound cellAt
+  looked-is stands fits =
+      let second : Text = cellAt ln (placesOf ln) 1 in
+      let third : Text = cellAt ln (placesOf ln) 2 in
+      rw there
+      (ap (λ p. lookFound file (lastIn past kd) kd p second third) (parent-same e sound file st past before h below say-below kd stands)
+      ∙ look-same e sound file st past before h kd small stands second third (fields ln) (cell-is ln 1 fits) (cell-is ln 2 fits))
+
   -- a whole line
-  module _ (rest : List Piece) (after : rest ≡ pieces (drop (length line + 2) (drop (st .at) file))) (short : length line ≤ lineLimit) where
-    taken : mayStand e before k ≡ true → Took e file (st .at) before r rest (took st r′)
-    unfolding stateAfter afterLine
-    taken may =
-        let sum : st .at + length line + 2 ≡ st .at + (length line + 2) = omega arith in
-        let moved : drop (st .at + length line + 2) file ≡ drop (length line + 2) (drop (st .at) file) =
-        ap (λ x. drop x file) sum ∙ sym (drop-drop (length line + 2) (st .at) file) in
-        record {
-          going = refl;
-          entry = ap₂ (λ x y. record { kind = k; start = x; len = length line; parent = y }) (h .at)
-              (parent-same e sound file st before h below say-below k may);
-          sums = sums-next e sound file st before h below say-below k small may line there;
-          on = moved ∙ sym (drop-drop 2 (length line) (drop (st .at) file));
-          left = ap pieces moved ∙ sym after;
-          line = refl;
-          short = short;
-        }
-
-    looked : mayStand e before k ≡ true → length (fields line) ≤ mostFields
-        → Outcome e file (st .at) before r rest (lookStep file st r′) (lookRule e before line k)
-    unfolding lookStep
-    looked may fits =
-        let second : Text = cellAt line (placesOf line) 1 in
-        let third : Text = cellAt line (placesOf line) 2 in
-        let same =
-        ap (λ p. lookFound file (st .past) k p second third) (parent-same e sound file st before h below say-below k may)
-        ∙ look-same e sound file st before h k small may second third (fields line) (cell-is line 1 fits) (cell-is line 2 fits) in
-        rw there
-        (subst (Outcome e file (st .at) before r rest _) (or-keeps (lookRule e before line k))
-        (found e file st before h r rest _ (lookRule e before line k) (took st r′) keeps same (λ _. taken may)))
-
-    whole-outcome : Outcome e file (st .at) before r rest (barStep names rows below file st (lineAt (drop (st .at) file))) (lateRule e before line k)
-    unfolding barStep recordOf placeStep fillStep lineAt
-    whole-outcome =
-        rw (there, kind-is)
-        (unless e file st before h r rest 8 0 (endsWith bar line) _ _
-        (found e file st before h r rest _ (placeRule e before line k) _ _ place-is (λ p.
-        found e file st before h r rest _ (fillRule e before line k) _ _ fill-is (λ f. looked (stands p) (few f)))))
+  whole-outcome : (rest : List Piece) → rest ≡ pieces (drop (length ln + 2) (drop (st .at) file)) → length ln ≤ lineLimit
+      → Outcome e below file st before (record { body = ln; ended = true }) rest
+      (recordStep names rows below (partOf file (st .at) (length ln)) st (placesOf ln)) (lateRule e before ln kd)
+  unfolding recordStep readStep recordOf
+  whole-outcome rest after short =
+      rw (there, kind-is)
+      (unless e file st past before h below _ rest 8 0 (endsWith bar ln) _ _
+      (found e file st past before h below _ rest _ (placeRule e before ln kd) _ _ place-is (λ p.
+      subst (Outcome e below file st before _ rest _) (or-keeps (fillRule e before ln kd))
+      (found e file st past before h below _ rest _ (fillRule e before ln kd) _ keeps fill-is (λ f.
+      record { is-piece = refl; is-rest = after; is-went = refl; short = short; stands = may p; few = few-fields f })))))
 
   -- a line as it is found
-  line-outcome : (q : Read (drop (st .at) file) line (numberAt (drop (st .at) file)))
-      → Outcome e file (st .at) before (recOf e before (q .piece)) (q .rest) (lineStep names rows below file st)
+  line-outcome : (q : Read (drop (st .at) file) ln (numberAt (drop (st .at) file)))
+      → Outcome e below file st before (q .piece) (q .rest) (lineStep names rows below file st)
       (orElse (scanFound (q .piece)) (lateRule e before (q .piece .body) (kindOfLine e (q .piece .body))))
-  unfolding orElse recOf foundOf lineStep lineAt
+  unfolding orElse foundOf lineStep lineAt
   line-outcome q = rw (q .told) (go (numberAt (drop (st .at) file)) refl)
     where
       s : ℕ → Stepped
-      s n = if eqb n 0 then barStep names rows below file st (lineAt (drop (st .at) file)) else halt st n 0
+      s n = if eqb n 0 then recordStep names rows below (partOf file (st .at) (length ln)) st (placesOf ln) else halt st n 0
 
       late : Piece → Found
       late p = lateRule e before (p .body) (kindOfLine e (p .body))
 
-      go : (n : ℕ) → numberAt (drop (st .at) file) ≡ n
-          → Outcome e file (st .at) before (recOf e before (q .piece)) (q .rest) (s n) (orElse (foundOf n) (late (q .piece)))
+      go : (n : ℕ) → numberAt (drop (st .at) file) ≡ n → Outcome e below file st before (q .piece) (q .rest) (s n) (orElse (foundOf n) (late (q .piece)))
       go zero z =
           let w = q .whole z in
-          subst (λ p. Outcome e file (st .at) before (recOf e before p) (q .rest) (s 0) (late p)) (sym (w .is-piece))
-          (whole-outcome (q .rest) (w .is-rest) (w .short))
-      go (suc m) z = rw (ne-eqb (suc m) 0 (λ q. omega arith)) (gave e file st before h (suc m) 0)
+          subst (λ p. Outcome e below file st before p (q .rest) (s 0) (late p)) (sym (w .is-piece)) (whole-outcome (q .rest) (w .is-rest) (w .short))
+      go (suc m) z = rw (ne-eqb (suc m) 0 (λ q. omega arith)) (gave e file st past before h (suc m) 0)
 
   many : leb linesLimit (st .count) ≡ ltb linesLimit (suc (length before))
   many = go (leb linesLimit (st .count)) refl
@@ -260,12 +252,12 @@ module _ (e : Edition) (sound : Sound e) (names rows : List ℕ) (say : Say e na
     pub piece : Piece
     pub rest : List Piece
     pub first-of : pieces (drop (st .at) file) ≡ piece ∷ rest
-    pub outcome : Outcome e file (st .at) before (recOf e before piece) rest s (first early (here e room before piece))
+    pub outcome : Outcome e below file st before piece rest s (first early (here e room before piece))
 
   pub turned : (room : ℕ) → st .at < length file → Turned room (turnOf names rows below file st)
   unfolding turnOf
   turned room l =
-      let q : Read (drop (st .at) file) line (numberAt (drop (st .at) file)) = read (drop (st .at) file) (omega (arith, length-drop (st .at) file)) in
+      let q : Read (drop (st .at) file) ln (numberAt (drop (st .at) file)) = read (drop (st .at) file) (omega (arith, length-drop (st .at) file)) in
       let p : Piece = q .piece in
       record {
         piece = p;
@@ -273,7 +265,7 @@ module _ (e : Edition) (sound : Sound e) (names rows : List ℕ) (say : Say e na
         first-of = q .first;
         outcome =
             rw (early-is e room before p, lt-leb (length file) (st .at) l)
-            (try e file st before h (recOf e before p) (q .rest) 2 0 (st .done) (closed before) _ _ (h .done) (λ _.
-            try e file st before h (recOf e before p) (q .rest) 3 0 (leb linesLimit (st .count)) (ltb linesLimit (suc (length before)))
+            (try e file st past before h below p (q .rest) 2 0 (st .done) (closed before) _ _ (h .done) (λ _.
+            try e file st past before h below p (q .rest) 3 0 (leb linesLimit (st .count)) (ltb linesLimit (suc (length before)))
             (lineStep names rows below file st) _ many (λ _. line-outcome q)));
       }

@@ -17,7 +17,7 @@ use Rattle.rules.specs.Findings.{findingOf, contentsFound}
 use Rattle.rules.specs.declared.Finding.{Finding}
 use Rattle.checker.specs.State.{placeFound, lookFound}
 use Rattle.checker.specs.Turn.{halt, foundStep, filledFound}
-use Rattle.checker.specs.declared.state.Past.{Past}
+use Rattle.checker.specs.declared.state.Last.{Last}
 use Rattle.checker.specs.declared.state.State.{State}
 use Rattle.checker.specs.declared.turn.Stepped.{Stepped}
 
@@ -45,23 +45,40 @@ pub filled-numbered : (names rows : List ℕ) (line : Text) (p : Places) (k : �
 unfolding filledFound
 filled-numbered names rows line p k = or-else-passes (ltb 0) _ _ (given-numbered 10 0 _) (contents-numbered k _ _ _)
 
-pub look-numbered : (text : Text) (past : Past) (k p : ℕ) (second third : Text) → Numbered (lookFound text past k p second third)
+pub look-numbered : (text : Text) (last : Last) (k p : ℕ) (second third : Text) → Numbered (lookFound text last k p second third)
 unfolding lookFound
-look-numbered text past k p second third = or-else-passes (ltb 0) _ _ (given-numbered 20 1 _) (given-numbered 19 2 _)
+look-numbered text last k p second third = or-else-passes (ltb 0) _ _ (given-numbered 20 1 _) (given-numbered 19 2 _)
 
-module _ (st : State) (x : Found) {f : Finding} (e : f ≡ findingOf x) (s : Stepped) where
-  pub stopped : (f .number ≡ 0 → ⊥) → halt st (f .number) (f .field) ≡ foundStep st x s
+module _ (x : Found) {f : Finding} (e : f ≡ findingOf x) where
+  pub stopped : (st : State) (s : Stepped) → (f .number ≡ 0 → ⊥) → halt st (f .number) (f .field) ≡ foundStep st x s
   unfolding foundStep findingOf
-  stopped z = go x e
+  stopped st s z = go x e
     where
       go : (x : Found) → f ≡ findingOf x → halt st (f .number) (f .field) ≡ foundStep st x s
       go keeps e = absurd (z (ap (λ (y : Finding). y .number) e))
       go (breaks n i) e = ap (λ (y : Finding). halt st (y .number) (y .field)) e
 
-  pub kept : Numbered x → f .number ≡ 0 → s ≡ foundStep st x s
+  pub kept : (st : State) (s : Stepped) → Numbered x → f .number ≡ 0 → s ≡ foundStep st x s
   unfolding foundStep findingOf
-  kept p z = go x e p
+  kept st s p z = go x e p
     where
       go : (x : Found) → f ≡ findingOf x → Numbered x → s ≡ foundStep st x s
+      go keeps e p = refl
+      go (breaks n i) e p = absurd (omega (arith, ltb-true 0 n p, ap (λ (y : Finding). y .number) e))
+
+  -- a finding with a number is that break, and one without is none
+  pub broke : (f .number ≡ 0 → ⊥) → x ≡ breaks (f .number) (f .field)
+  unfolding findingOf
+  broke z = go x e
+    where
+      go : (x : Found) → f ≡ findingOf x → x ≡ breaks (f .number) (f .field)
+      go keeps e = absurd (z (ap (λ (y : Finding). y .number) e))
+      go (breaks n i) e = sym (ap (λ (y : Finding). breaks (y .number) (y .field)) e)
+
+  pub keeps-all : Numbered x → f .number ≡ 0 → x ≡ keeps
+  unfolding findingOf
+  keeps-all p z = go x e p
+    where
+      go : (x : Found) → f ≡ findingOf x → Numbered x → x ≡ keeps
       go keeps e p = refl
       go (breaks n i) e p = absurd (omega (arith, ltb-true 0 n p, ap (λ (y : Finding). y .number) e))

@@ -13,13 +13,7 @@ key-bad-spec =
     (tie.spec
     (λ c κs. search needs)
     (λ c. simp (no-key _ (c .before .key-count .ensures) (c .if1 .taken)))
-    (λ c. search needs)
-    (λ c. search needs)
     (λ c. simp (some-key _ (c .before .before .before .key-count .ensures) (c .before .before .if1 .left), ne-eqb _ _ (c .if2 .taken)))
-    (λ c. search needs)
-    (λ c. search needs)
-    (λ c. search needs)
-    (λ c. search needs)
     (λ c. search needs)
     (λ c. search needs)
     (λ c κs. search needs)

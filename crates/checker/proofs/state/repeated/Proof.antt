@@ -1,4 +1,4 @@
--- Only a kind that stands once can repeat, and it does below the line where it stood last.
+-- Only a kind that stands once can be repeated.
 use borrow.Author.Needs.{needs}
 use Rattle.checker.specs.State.{stoodOn, repeatedOn}
 use Rattle.checker.proofs.state.repeated.Statement.{statement}
@@ -10,7 +10,5 @@ repeated-spec =
     tie.close
     (tie.spec
     (λ c κs. search needs)
-    (λ c. search needs)
-    (λ c. search needs)
     (λ c. simp (← c .before .before .stands-once .ensures, c .before .if1 .taken))
     (λ c. simp (← c .before .stands-once .ensures, c .if1 .left)))

@@ -1,4 +1,5 @@
 -- Each field is what its function gives.
+use native.Mathlib.Omega.{arith}
 use borrow.Author.Needs.{needs}
 use Rattle.checker.specs.State.{stateAfter}
 use Rattle.checker.proofs.state.state_after.Statement.{statement}
@@ -9,19 +10,9 @@ unfolding stateAfter
 state-after-spec =
     tie.close
     (tie.spec
-    (λ c. search needs)
+    (λ c. omega (arith, c .before .pre .1 .0 .fewer))
+    (λ c. let p = c .before .before .pre .1 in omega (arith, p .0 .near .near, p .0 .fewer, p .1))
+    (λ c. let p = c .before .before .pre .1 in omega (arith, p .0 .near .near, p .0 .fewer, p .1))
     (λ c κs. search needs)
-    (λ c. search needs)
-    (λ c. search needs)
-    (λ c κs. search needs)
-    (λ c κs. search needs)
-    (λ c. search needs)
-    (λ c. search needs)
-    (λ c κs. search needs)
-    (λ c.
-    simp (
-      c .past-after .ensures,
-      c .before .path-after .ensures,
-      c .before .before .declarant-of .ensures,
-      c .before .before .before .above .ensures,
-    )))
+    (λ c κs. c .before .before .before .pre .0)
+    (λ c. simp (c .path-after .ensures, c .before .declarant-of .ensures)))

@@ -1,6 +1,6 @@
 -- The kind by the identifier, the place by the kind.
-use mathlib.Core.Path.{_≡_, sym, ap, _∙_, subst}
 use Prim.Native.Nat.{_<_}
+use mathlib.Core.Path.{sym, subst}
 use borrow.Author.Needs.{needs}
 use Rattle.layout.specs.Tables.{kinds}
 use Rattle.layout.proofs.Laws.{kind-bound}
@@ -15,9 +15,14 @@ record-of-spec =
     (tie.spec
     (λ c κs. search needs)
     (λ c κs. search needs)
-    (λ c κs. c .before .before .before .before .pre)
+    (λ c κs. c .before .before .before .pre)
+    (λ c. search needs)
+    (λ c. search needs)
+    (λ c. search needs)
+    (λ c. search needs)
     (λ c.
-    let k = c .before .before .kind-of .ensures in (
-      simp (c .held-at .ensures .0, k, c .before .before .before .field .ensures .0),
-      (subst (λ x. x < kinds) (sym k) (kind-bound _ _), c .held-at .ensures .1),
+    let h = c .before .before .before .before .held-at .ensures in
+    let k = c .before .before .before .before .before .kind-of .ensures in (
+      simp (h .0, k, c .before .before .before .before .before .before .field .ensures .0),
+      (subst (λ x. x < kinds) (sym k) (kind-bound _ _), h .1),
     )))

@@ -1,3 +1,4 @@
+-- The record of a turn that stops is none.
 use mathlib.Core.Path.{refl}
 use Rattle.checker.proofs.turn.stop.Statement.{statement}
 use Rattle.checker.proofs.turn.stop.Tie as tie
