@@ -1,22 +1,29 @@
--- The tables of 2025 say the edition of 2025.
+-- The tables of 2025 say the edition of 2025, with the list of the declarant that line 3 names.
 use Prim.Native.Nat.{ℕ}
 use mathlib.Core.Path.{_≡_, sym, ap, _∙_, subst}
 use mathlib.Core.List.{List}
 use Rattle.dirf.specs.Bytes.{Text}
+use Rattle.dirf.specs.Kinds.{DECPF, DECPJ}
 use Rattle.dirf.specs.Edition.{edition2025}
 use Rattle.dirf.proofs.Edition2025.{sound2025}
-use Rattle.layout.specs.Tables.{nameTable, rowTable, belowTable}
+use Rattle.layout.specs.Tables.{belowTable}
 use Rattle.layout.specs.LaidOut.{SayBelow}
 use Rattle.layout.proofs.Laws.{says, says-below}
-use Rattle.layout.proofs.Edition2025.{laidOut2025}
+use Rattle.layout.proofs.Edition2025.{laidOut2025, other-table}
 use Rattle.checker.specs.Lines.{thirdKind}
-use Rattle.checker.specs.Answers.{SayAll}
+use Rattle.checker.specs.Answers.{SayAll, Tabled, Lent}
 
-pub say2025 : (file : Text) {names rows : List ℕ} {below : List (List ℕ)} {k : ℕ} → names ≡ nameTable edition2025 → rows ≡ rowTable edition2025
-    → k ≡ thirdKind names file → below ≡ belowTable edition2025 k → SayAll edition2025 names rows below file
-say2025 file {names} {rows} {below} {k} n r t b =
-    record {
-      sound = sound2025;
-      say = rw (n, r) (says edition2025 laidOut2025);
-      say-below = subst (λ d. SayBelow edition2025 d below) t (subst (SayBelow edition2025 k) (sym b) (says-below edition2025 laidOut2025 k));
-    }
+module _ (file : Text) {names rows : List ℕ} {below : List (List ℕ)} (lent : Lent names rows) where
+  with-table : below ≡ belowTable edition2025 (thirdKind names file) → SayAll edition2025 names rows below file
+  with-table b =
+      record {
+        sound = sound2025;
+        say = rw (lent .0, lent .1) (says edition2025 laidOut2025);
+        say-below = subst (SayBelow edition2025 (thirdKind names file)) (sym b) (says-below edition2025 laidOut2025 (thirdKind names file));
+      }
+
+  pub say-pf : thirdKind names file ≡ DECPF → below ≡ belowTable edition2025 DECPF → SayAll edition2025 names rows below file
+  say-pf q b = with-table (b ∙ ap (belowTable edition2025) (sym q))
+
+  pub say-pj : (thirdKind names file ≡ DECPF → ⊥) → below ≡ belowTable edition2025 DECPJ → SayAll edition2025 names rows below file
+  say-pj n b = with-table (b ∙ sym (other-table (thirdKind names file) n))

@@ -13,10 +13,11 @@ ghost use Prim.Native.Nat.{_+_, _*_, _/_, _≤_, _<_};
 ghost use lib.ListN.{length};
 ghost use lib.Seq.{sets};
 ghost use Rattle.dirf.specs.Limits.{linesLimit, numbersAnEntry};
+ghost use Rattle.dirf.specs.Kinds.{DECPF};
 ghost use Rattle.dirf.specs.Edition.{edition2025};
 ghost use Rattle.dirf.specs.Check.{entryNumbers, verdict};
 ghost use Rattle.checker.specs.Lines.{thirdKind};
-ghost use Rattle.checker.specs.Answers.{answerOf, tableAfter, entryOfCode, putEntry, Tabled, Answers, Leaves};
+ghost use Rattle.checker.specs.Answers.{answerOf, tableAfter, tableWithin, entryOfCode, putEntry, Tabled, Answers, Leaves, Lent};
 
 // Document 01: "The table has four 32-bit numbers a record".
 pub const NUMBERS_AN_ENTRY: usize = 4;
@@ -113,32 +114,63 @@ fn walk(
     }
 }
 
+// The rest of a file whose line 3 is a DECPF, and of any other.
+fn walk_pf(
+    names: &[u8; NAME_BYTES],
+    rows: &[u8; ROW_BYTES],
+    file: &[u8],
+    room: usize,
+    table: &mut [u32],
+) -> Answer
+    requires { ⌜ Lent (now names) (now rows) × (thirdKind (now names) (now file) ≡ DECPF) ⌝ }
+    ensures answer { λ r. ⌜ r ≡ answerOf (verdict edition2025 (now (file .entry)) room) ⌝ }
+    ensures entries { λ r. ⌜ now (table .exit) ≡ tableWithin (verdict edition2025 (now (file .entry)) room) (now (table .entry)) ⌝ }
+{
+    let below = layout::pf_table();
+    walk(names, rows, &below, file, room, table)
+}
+
+fn walk_pj(
+    names: &[u8; NAME_BYTES],
+    rows: &[u8; ROW_BYTES],
+    file: &[u8],
+    room: usize,
+    table: &mut [u32],
+) -> Answer
+    requires { ⌜ Lent (now names) (now rows) × (thirdKind (now names) (now file) ≡ DECPF → ⊥) ⌝ }
+    ensures answer { λ r. ⌜ r ≡ answerOf (verdict edition2025 (now (file .entry)) room) ⌝ }
+    ensures entries { λ r. ⌜ now (table .exit) ≡ tableWithin (verdict edition2025 (now (file .entry)) room) (now (table .entry)) ⌝ }
+{
+    let below = layout::pj_table();
+    walk(names, rows, &below, file, room, table)
+}
+
+// With the tables of 2025, and that of the declarant alone of the two.
+fn judged(file: &[u8], room: usize, table: &mut [u32]) -> Answer
+    ensures answer { λ r. ⌜ r ≡ answerOf (verdict edition2025 (now (file .entry)) room) ⌝ }
+    ensures entries { λ r. ⌜ now (table .exit) ≡ tableWithin (verdict edition2025 (now (file .entry)) room) (now (table .entry)) ⌝ }
+{
+    let names = layout::name_table();
+    let rows = layout::row_table();
+    if third_kind(&names, file) == 3 {
+        return walk_pf(&names, &rows, file, room, table);
+    }
+    walk_pj(&names, &rows, file, room, table)
+}
+
 // The check: acceptance with a record table, or the first breach with the entries before it.
 pub fn check(file: &[u8], table: &mut [u32]) -> Answer
     ensures answer { λ r. ⌜ r ≡ answerOf (verdict edition2025 (now (file .entry)) (length (now (table .entry)) / numbersAnEntry)) ⌝ }
     ensures entries { λ r. ⌜ now (table .exit)
         ≡ tableAfter (verdict edition2025 (now (file .entry)) (length (now (table .entry)) / numbersAnEntry)) (now (table .entry)) ⌝ }
 {
-    let names = layout::name_table();
-    let rows = layout::row_table();
-    let below = layout::below_table(third_kind(&names, file));
-    walk(
-        &names,
-        &rows,
-        &below,
-        file,
-        table.len() / NUMBERS_AN_ENTRY,
-        table,
-    )
+    judged(file, table.len() / NUMBERS_AN_ENTRY, table)
 }
 
 // The check with a room in entries and no table.
 pub fn check_room(file: &[u8], room: usize) -> Answer
     ensures { λ r. ⌜ r ≡ answerOf (verdict edition2025 (now (file .entry)) room) ⌝ }
 {
-    let names = layout::name_table();
-    let rows = layout::row_table();
-    let below = layout::below_table(third_kind(&names, file));
     let mut table = [0u32; NUMBERS_AN_ENTRY];
-    walk(&names, &rows, &below, file, room, &mut table[0..0])
+    judged(file, room, &mut table[0..0])
 }

@@ -3,7 +3,8 @@ use mathlib.Core.Path.{sym, _∙_}
 use Rattle.fields.proofs.Determined.{One, OnePlace, by-parts}
 use Rattle.layout.proofs.name_table.Reads as name-table
 use Rattle.layout.proofs.row_table.Reads as row-table
-use Rattle.layout.proofs.below_table.Reads as below-table
+use Rattle.layout.proofs.pf_table.Reads as pf-table
+use Rattle.layout.proofs.pj_table.Reads as pj-table
 use Rattle.layout.proofs.kind_of.Reads as kind-of
 use Rattle.layout.proofs.field_count.Reads as field-count
 use Rattle.layout.proofs.row_at.Reads as row-at
@@ -20,8 +21,11 @@ name-table-one κs a x y s t p q = p ∙ sym q
 pub row-table-one : One row-table.Post
 row-table-one κs a x y s t p q = p ∙ sym q
 
-pub below-table-one : One below-table.Post
-below-table-one κs a x y s t p q = p ∙ sym q
+pub pf-table-one : One pf-table.Post
+pf-table-one κs a x y s t p q = p ∙ sym q
+
+pub pj-table-one : One pj-table.Post
+pj-table-one κs a x y s t p q = p ∙ sym q
 
 pub kind-of-one : One kind-of.Post
 kind-of-one κs a x y s t p q = p ∙ sym q

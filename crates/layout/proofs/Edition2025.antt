@@ -4,12 +4,13 @@ use mathlib.Core.Path.{_≡_, refl}
 use mathlib.Core.Bool.{Bool, true}
 use mathlib.Core.List.{List}
 use lib.Dec.{eqb}
+use borrow.Author.Tests.{ne-eqb}
 use Rattle.dirf.specs.Bytes.{every, bytes-opens}
-use Rattle.dirf.specs.Kinds.{DECPF}
+use Rattle.dirf.specs.Kinds.{DECPF, DECPJ}
 use Rattle.dirf.specs.Below.{Children, underDECPF, underDECPJ, below2025}
 use Rattle.dirf.specs.Edition.{edition2025, edition-opens}
 use Rattle.dirf.proofs.Bools.{if-cases}
-use Rattle.layout.specs.Tables.{nameIn, namesIn, baseIn, nameTable, slotOf, concat, rowsIn, countIn, rowIn, byteIn, rowOf}
+use Rattle.layout.specs.Tables.{belowTable, nameIn, namesIn, baseIn, nameTable, slotOf, concat, rowsIn, countIn, rowIn, byteIn, rowOf}
 use Rattle.layout.specs.Tables.{formatOf, fillOf, needOf, holdsOf, recordOf, rowBytesOf, formatByte, fillByte, needByte, holdsByte}
 use Rattle.layout.specs.LaidOut.{LaidOut, isKind}
 
@@ -33,3 +34,8 @@ laidOut2025 =
       widths = refl;
       records = λ after. refl;
     }
+
+-- what is no DECPF has the list of DECPJ
+pub other-table : (d : ℕ) → (d ≡ DECPF → ⊥) → belowTable edition2025 d ≡ belowTable edition2025 DECPJ
+unfolding belowTable edition2025 below2025
+other-table d n = rw (ne-eqb d DECPF n)

@@ -364,26 +364,17 @@ pub fn row_table() -> [u8; ROW_BYTES]
     ROWS
 }
 
-fn pf_table() -> [[u8; KINDS]; KINDS]
+// What may stand below what under a DECPF, and under a DECPJ. Each has a function of its own: to choose between two costs a copy.
+pub fn pf_table() -> [[u8; KINDS]; KINDS]
     ensures { λ r. ⌜ r ≡ belowTable edition2025 DECPF ⌝ }
 {
     BELOW_DECPF
 }
 
-fn pj_table() -> [[u8; KINDS]; KINDS]
+pub fn pj_table() -> [[u8; KINDS]; KINDS]
     ensures { λ r. ⌜ r ≡ belowTable edition2025 DECPJ ⌝ }
 {
     BELOW_DECPJ
-}
-
-// What may stand below what under a declarant of this kind; DECPJ's table for what is no declarant.
-pub fn below_table(declarant: u32) -> [[u8; KINDS]; KINDS]
-    ensures { λ r. ⌜ r ≡ belowTable edition2025 declarant ⌝ }
-{
-    if declarant == 3 {
-        return pf_table();
-    }
-    pj_table()
 }
 
 // The identifier of a kind, as a part of the lent table; empty for what is no kind.
