@@ -8,9 +8,7 @@ use Rattle.dirf.specs.Limits.{lineLimit, LF}
 use Rattle.dirf.specs.Lines.{clean, unclean}
 use Rattle.dirf.specs.FieldReader.{fieldOf}
 use Rattle.dirf.specs.Edition.{kindIn}
-use Rattle.fields.specs.Places.{placesOf}
 use Rattle.layout.specs.Tables.{namesIn}
-use Rattle.checker.specs.declared.lines.Line.{Line}
 
 -- what ends a line, given what stands behind its bytes: 0 for CR LF, else 5 or 6
 unfoldable pub endOf : Text → ℕ
@@ -21,9 +19,6 @@ endOf (b ∷ c ∷ s) = if eqb b LF then 6 else if eqb c LF then 0 else 6
 -- 4, 5 and 6, else 0
 unfoldable pub numberAt : Text → ℕ
 numberAt s = if ltb lineLimit (length (clean s)) then 4 else endOf (unclean s)
-
-unfoldable pub lineAt : Text → Line
-lineAt s = record { number = numberAt s; len = length (clean s); places = placesOf (clean s) }
 
 -- what stands behind a line and the two bytes that end it
 unfoldable pub afterLine : Text → Text

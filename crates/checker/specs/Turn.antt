@@ -7,15 +7,15 @@ use lib.ListN.{length, getD, drop}
 use Rattle.dirf.specs.Bytes.{if_then_else_, Text, endsWith}
 use Rattle.dirf.specs.Limits.{bar, lineLimit, linesLimit}
 use Rattle.dirf.specs.Edition.{kindIn}
+use Rattle.dirf.specs.Lines.{clean}
 use Rattle.dirf.specs.FieldReader.{fieldOf}
 use Rattle.dirf.specs.Rules.{Found, keeps, breaks, given, orElse}
-use Rattle.fields.specs.Places.{partOf, cellsAt}
+use Rattle.fields.specs.Places.{partOf, placesOf, cellsAt}
 use Rattle.fields.specs.declared.Places.{Places}
 use Rattle.layout.specs.Tables.{kinds, nameIn, namesIn, countIn, rowsIn}
 use Rattle.rules.specs.Findings.{contentsFound}
-use Rattle.checker.specs.Lines.{lineAt}
+use Rattle.checker.specs.Lines.{numberAt}
 use Rattle.checker.specs.State.{deepest, above, heldAt, placeFound, lookFound, Safe}
-use Rattle.checker.specs.declared.lines.Line.{Line}
 use Rattle.checker.specs.declared.Answer.{Answer}
 use Rattle.checker.specs.declared.state.Last.{Last}
 use Rattle.checker.specs.declared.state.State.{State}
@@ -88,11 +88,10 @@ recordStep names rows below line st p =
     if endsWith bar line then readStep names rows line st p (recordOf names below line st p) else halt st 8 0
 
 -- 4, 5 and 6
-abbrev pub scanStep : List ℕ → List ℕ → List (List ℕ) → Text → State → Line → Stepped
-scanStep names rows below file st l = if eqb (l .number) 0 then recordStep names rows below (partOf file (st .at) (l .len)) st (l .places) else halt st (l .number) 0
-
 unfoldable pub lineStep : List ℕ → List ℕ → List (List ℕ) → Text → State → Stepped
-lineStep names rows below file st = scanStep names rows below file st (lineAt (drop (st .at) file))
+lineStep names rows below file st =
+    let s = drop (st .at) file in
+    if eqb (numberAt s) 0 then recordStep names rows below (partOf s 0 (length (clean s))) st (placesOf (clean s)) else halt st (numberAt s) 0
 
 -- the end, 1, 2 and 3
 unfoldable pub turnOf : List ℕ → List ℕ → List (List ℕ) → Text → State → Stepped

@@ -1,20 +1,13 @@
 // The line that comes next: where it ends, and 4, 5 and 6.
-use fields::Places;
 ghost use mathlib.Core.Path.{_≡_};
-ghost use lib.ListN.{drop};
+ghost use lib.ListN.{length, drop};
 ghost use Rattle.dirf.specs.Bytes.{endsWith};
 ghost use Rattle.dirf.specs.Limits.{bar};
-ghost use Rattle.checker.specs.Lines.{endOf, lineAt, afterLine};
+ghost use Rattle.dirf.specs.Lines.{clean};
+ghost use Rattle.checker.specs.Lines.{endOf, numberAt, afterLine};
 
 // Document 01: "A line is 0 to 1,024 bytes followed by CR LF."
 const LINE_BYTES: usize = 1024;
-
-// 4, 5 or 6, else 0; how many bytes the line has; and where its fields stand.
-pub(crate) struct Line {
-    pub(crate) number: u32,
-    pub(crate) len: usize,
-    pub(crate) places: Places,
-}
 
 // What is left of a text from a place on.
 pub(crate) fn tail(s: &[u8], start: usize) -> &[u8]
@@ -42,26 +35,15 @@ fn end_of(u: &[u8]) -> u32
     6
 }
 
-// The line at the front of a text.
-pub(crate) fn line_at(s: &[u8]) -> Line
-    ensures { λ r. ⌜ r ≡ lineAt (now (s .entry)) ⌝ }
+// 4, 5 or 6 of the line at the front of a text, which has n bytes; else 0.
+pub(crate) fn number_at(s: &[u8], n: usize) -> u32
+    requires { ⌜ n ≡ length (clean (now s)) ⌝ }
+    ensures { λ r. ⌜ r ≡ numberAt (now (s .entry)) ⌝ }
 {
-    let l = fields::scan(s);
-    let n = l.len;
-    let p = l.places;
     if LINE_BYTES < n {
-        return Line {
-            number: 4,
-            len: n,
-            places: p,
-        };
+        return 4;
     }
-    let e = end_of(tail(s, n));
-    Line {
-        number: e,
-        len: n,
-        places: p,
-    }
+    end_of(tail(s, n))
 }
 
 pub(crate) fn ends_in_bar(s: &[u8]) -> bool

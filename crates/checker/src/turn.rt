@@ -227,13 +227,14 @@ fn lined(
     requires { ⌜ Safe st ⌝ }
     ensures { λ s. ⌜ s ≡ lineStep (now (names .entry)) (now (rows .entry)) (now (below .entry)) (now (file .entry)) st ⌝ }
 {
-    let at = st.at;
-    let l = lines::line_at(lines::tail(file, at));
-    if l.number != 0 {
-        return refuse(st, l.number, 0);
+    let rest = lines::tail(file, st.at);
+    let l = fields::scan(rest);
+    let number = lines::number_at(rest, l.len);
+    if number != 0 {
+        return refuse(st, number, 0);
     }
     let p = l.places;
-    recorded(names, rows, below, fields::part(file, at, l.len), st, p)
+    recorded(names, rows, below, fields::part(rest, 0, l.len), st, p)
 }
 
 // The end, 1, 2 and 3.

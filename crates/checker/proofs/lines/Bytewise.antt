@@ -12,8 +12,7 @@ use Rattle.dirf.specs.Limits.{lineLimit}
 use Rattle.dirf.specs.Lines.{isLineEnd, clean, unclean}
 use Rattle.fields.specs.Places.{scanOf}
 use Rattle.fields.specs.declared.Scanned.{Scanned}
-use Rattle.checker.specs.Lines.{endOf, numberAt, lineAt, afterLine}
-use Rattle.checker.specs.declared.lines.Line.{Line}
+use Rattle.checker.specs.Lines.{endOf, numberAt, afterLine}
 
 -- what stands behind the bytes of a line
 pub drop-clean : (s : Text) → drop (length (clean s)) s ≡ unclean s
@@ -50,26 +49,17 @@ ended [] = refl
 ended (b ∷ []) = refl
 ended (b ∷ c ∷ u) = rw (lt-leb (suc (suc (length u))) 0 (omega arith), lt-leb (suc (suc (length u))) 1 (omega arith))
 
--- what is scanned, with a number
-abbrev pub numbered : ℕ → Scanned → Line
-numbered n l = record { number = n; len = l .len; places = l .places }
+-- what stands behind a line, by what was scanned of it
+pub behind-line : (s : Text) {l : Scanned} → l ≡ scanOf s → {t u : Text} → t ≡ drop (l .len) s → u ≡ drop 2 t → u ≡ afterLine s
+unfolding afterLine scanOf
+behind-line s e f g = g ∙ ap (drop 2) (f ∙ ap (λ (m : Scanned). drop (m .len) s) e)
 
--- a line by what was scanned of it
-module _ (s : Text) {l : Scanned} (e : l ≡ scanOf s) where
-  pub line-scanned : {n : ℕ} → n ≡ numberAt s → numbered n l ≡ lineAt s
-  unfolding lineAt scanOf
-  line-scanned f = ap₂ numbered f e
+-- 4 past the limit, else what stands behind the bytes gives the number
+module _ (s : Text) {n : ℕ} (e : n ≡ length (clean s)) where
+  pub too-long : lineLimit < n → 4 ≡ numberAt s
+  unfolding numberAt
+  too-long h = rw (lt-ltb lineLimit (length (clean s)) (omega arith))
 
-  pub too-long : lineLimit < l .len → 4 ≡ numberAt s
-  unfolding numberAt scanOf
-  too-long h = rw (lt-ltb lineLimit (length (clean s)) (subst (λ (m : Scanned). lineLimit < m .len) e h))
-
-  pub by-its-end : {u : Text} {n : ℕ} → l .len ≤ lineLimit → u ≡ drop (l .len) s → n ≡ endOf u → n ≡ numberAt s
-  unfolding numberAt scanOf
-  by-its-end h b f =
-      rw (le-ltb lineLimit (length (clean s)) (subst (λ (m : Scanned). m .len ≤ lineLimit) e h))
-      (f ∙ ap endOf (b ∙ ap (λ (m : Scanned). drop (m .len) s) e ∙ drop-clean s))
-
-  pub behind-line : {t u : Text} → t ≡ drop (l .len) s → u ≡ drop 2 t → u ≡ afterLine s
-  unfolding afterLine scanOf
-  behind-line f g = g ∙ ap (drop 2) (f ∙ ap (λ (m : Scanned). drop (m .len) s) e)
+  pub by-its-end : {u : Text} {m : ℕ} → n ≤ lineLimit → u ≡ drop n s → m ≡ endOf u → m ≡ numberAt s
+  unfolding numberAt
+  by-its-end h b f = rw (le-ltb lineLimit (length (clean s)) (omega arith)) (f ∙ ap endOf (b ∙ ap (λ x. drop x s) e ∙ drop-clean s))

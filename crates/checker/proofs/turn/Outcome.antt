@@ -27,7 +27,7 @@ use Rattle.layout.specs.Tables.{kinds, namesIn, nameIn, rowsIn, countIn}
 use Rattle.layout.specs.LaidOut.{Say, SayBelow}
 use Rattle.layout.proofs.Laws.{kind-small, count-is, few-rows}
 use Rattle.rules.specs.Findings.{contentsFound}
-use Rattle.checker.specs.Lines.{numberAt, lineAt}
+use Rattle.checker.specs.Lines.{numberAt}
 use Rattle.checker.specs.State.{heldAt, lastIn, placeFound, lookFound}
 use Rattle.checker.specs.Turn.{refusedAt, halt, foundStep, went, lookedFound, filledFound, readStep, recordOf, recordStep, lineStep, turnOf}
 use Rattle.checker.specs.declared.state.Past.{Past}
@@ -159,6 +159,10 @@ module _ (e : Edition) (sound : Sound e) (names rows : List ℕ) (say : Say e na
   unfolding partOf
   there = line-is (drop (st .at) file)
 
+  there-now : partOf (drop (st .at) file) 0 (length ln) ≡ ln
+  unfolding partOf
+  there-now = line-is (drop (st .at) file)
+
   kind-is : kindIn (namesIn names) (fieldOf 1 ln) ≡ kd
   unfolding kindOfLine fieldOf
   kind-is = say .kind (field 1 (fields ln))
@@ -211,10 +215,10 @@ module _ (e : Edition) (sound : Sound e) (names rows : List ℕ) (say : Say e na
   -- a whole line
   whole-outcome : (rest : List Piece) → rest ≡ pieces (drop (length ln + 2) (drop (st .at) file)) → length ln ≤ lineLimit
       → Outcome e below file st before (record { body = ln; ended = true }) rest
-      (recordStep names rows below (partOf file (st .at) (length ln)) st (placesOf ln)) (lateRule e before ln kd)
+      (recordStep names rows below (partOf (drop (st .at) file) 0 (length ln)) st (placesOf ln)) (lateRule e before ln kd)
   unfolding recordStep readStep recordOf
   whole-outcome rest after short =
-      rw (there, kind-is)
+      rw (there-now, kind-is)
       (unless e file st past before h below _ rest 8 0 (endsWith bar ln) _ _
       (found e file st past before h below _ rest _ (placeRule e before ln kd) _ _ place-is (λ p.
       subst (Outcome e below file st before _ rest _) (or-keeps (fillRule e before ln kd))
@@ -225,11 +229,11 @@ module _ (e : Edition) (sound : Sound e) (names rows : List ℕ) (say : Say e na
   line-outcome : (q : Read (drop (st .at) file) ln (numberAt (drop (st .at) file)))
       → Outcome e below file st before (q .piece) (q .rest) (lineStep names rows below file st)
       (orElse (scanFound (q .piece)) (lateRule e before (q .piece .body) (kindOfLine e (q .piece .body))))
-  unfolding orElse foundOf lineStep lineAt
+  unfolding orElse foundOf lineStep
   line-outcome q = rw (q .told) (go (numberAt (drop (st .at) file)) refl)
     where
       s : ℕ → Stepped
-      s n = if eqb n 0 then recordStep names rows below (partOf file (st .at) (length ln)) st (placesOf ln) else halt st n 0
+      s n = if eqb n 0 then recordStep names rows below (partOf (drop (st .at) file) 0 (length ln)) st (placesOf ln) else halt st n 0
 
       late : Piece → Found
       late p = lateRule e before (p .body) (kindOfLine e (p .body))
