@@ -7,11 +7,10 @@ use lib.ListN.{length, take, drop}
 use lib.Seq.{sets}
 use Rattle.dirf.specs.Bytes.{if_then_else_, Text}
 use Rattle.dirf.specs.Limits.{numbersAnEntry}
-use Rattle.dirf.specs.Edition.{Edition, edition2025}
+use Rattle.dirf.specs.Edition.{Edition}
 use Rattle.dirf.specs.Check as dirf
 use Rattle.dirf.specs.Check.{Verdict, numbersOf, verdict}
 use Rattle.dirf.specs.Theorems.Sound.{Sound}
-use Rattle.layout.specs.Tables.{nameTable, rowTable}
 use Rattle.layout.specs.LaidOut.{Say, SayBelow}
 use Rattle.checker.specs.Lines.{thirdKind}
 use Rattle.checker.specs.declared.Answer.{Answer}
@@ -59,7 +58,3 @@ Answers names rows below file room r = (e : Edition) → SayAll e names rows bel
 abbrev pub Leaves : List ℕ → List ℕ → List (List ℕ) → Text → ℕ → List ℕ → List ℕ → Type 0
 Leaves names rows below file room before after =
     (e : Edition) → SayAll e names rows below file → after ≡ tableWithin (verdict e file room) before
-
--- the lent tables are those of 2025
-abbrev pub Lent : List ℕ → List ℕ → Type 0
-Lent names rows = (names ≡ nameTable edition2025) × (rows ≡ rowTable edition2025)

@@ -16,8 +16,9 @@ ghost use Rattle.dirf.specs.Limits.{linesLimit, numbersAnEntry};
 ghost use Rattle.dirf.specs.Kinds.{DECPF};
 ghost use Rattle.dirf.specs.Edition.{edition2025};
 ghost use Rattle.dirf.specs.Check.{entryNumbers, verdict};
+ghost use Rattle.layout.specs.Tables.{nameTable};
 ghost use Rattle.checker.specs.Lines.{thirdKind};
-ghost use Rattle.checker.specs.Answers.{answerOf, tableAfter, tableWithin, entryOfCode, putEntry, Tabled, Answers, Leaves, Lent};
+ghost use Rattle.checker.specs.Answers.{answerOf, tableAfter, tableWithin, entryOfCode, putEntry, Tabled, Answers, Leaves};
 
 // Document 01: "The table has four 32-bit numbers a record".
 pub const NUMBERS_AN_ENTRY: usize = 4;
@@ -114,35 +115,25 @@ fn walk(
     }
 }
 
-// The rest of a file whose line 3 is a DECPF, and of any other.
-fn walk_pf(
-    names: &[u8; NAME_BYTES],
-    rows: &[u8; ROW_BYTES],
-    file: &[u8],
-    room: usize,
-    table: &mut [u32],
-) -> Answer
-    requires { ⌜ Lent (now names) (now rows) × (thirdKind (now names) (now file) ≡ DECPF) ⌝ }
+// A file whose line 3 is a DECPF, and any other. Each makes its own tables: of two calls the compiler keeps one function, with its own stack.
+fn walk_pf(names: &[u8; NAME_BYTES], file: &[u8], room: usize, table: &mut [u32]) -> Answer
+    requires { ⌜ (now names ≡ nameTable edition2025) × (thirdKind (now names) (now file) ≡ DECPF) ⌝ }
     ensures answer { λ r. ⌜ r ≡ answerOf (verdict edition2025 (now (file .entry)) room) ⌝ }
     ensures entries { λ r. ⌜ now (table .exit) ≡ tableWithin (verdict edition2025 (now (file .entry)) room) (now (table .entry)) ⌝ }
 {
+    let rows = layout::row_table();
     let below = layout::pf_table();
-    walk(names, rows, &below, file, room, table)
+    walk(names, &rows, &below, file, room, table)
 }
 
-fn walk_pj(
-    names: &[u8; NAME_BYTES],
-    rows: &[u8; ROW_BYTES],
-    file: &[u8],
-    room: usize,
-    table: &mut [u32],
-) -> Answer
-    requires { ⌜ Lent (now names) (now rows) × (thirdKind (now names) (now file) ≡ DECPF → ⊥) ⌝ }
+fn walk_pj(names: &[u8; NAME_BYTES], file: &[u8], room: usize, table: &mut [u32]) -> Answer
+    requires { ⌜ (now names ≡ nameTable edition2025) × (thirdKind (now names) (now file) ≡ DECPF → ⊥) ⌝ }
     ensures answer { λ r. ⌜ r ≡ answerOf (verdict edition2025 (now (file .entry)) room) ⌝ }
     ensures entries { λ r. ⌜ now (table .exit) ≡ tableWithin (verdict edition2025 (now (file .entry)) room) (now (table .entry)) ⌝ }
 {
+    let rows = layout::row_table();
     let below = layout::pj_table();
-    walk(names, rows, &below, file, room, table)
+    walk(names, &rows, &below, file, room, table)
 }
 
 // With the tables of 2025, and that of the declarant alone of the two.
@@ -151,11 +142,10 @@ fn judged(file: &[u8], room: usize, table: &mut [u32]) -> Answer
     ensures entries { λ r. ⌜ now (table .exit) ≡ tableWithin (verdict edition2025 (now (file .entry)) room) (now (table .entry)) ⌝ }
 {
     let names = layout::name_table();
-    let rows = layout::row_table();
     if third_kind(&names, file) == 3 {
-        return walk_pf(&names, &rows, file, room, table);
+        return walk_pf(&names, file, room, table);
     }
-    walk_pj(&names, &rows, file, room, table)
+    walk_pj(&names, file, room, table)
 }
 
 // The check: acceptance with a record table, or the first breach with the entries before it.

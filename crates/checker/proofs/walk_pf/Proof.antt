@@ -13,14 +13,19 @@ walk-pf-spec =
     tie.close
     (tie.spec
     (λ c κs. search needs)
+    (λ c κs. search needs)
     (λ c κs.
-    let p = c .before .before .before .before .before .pre in
-    record { edition = edition2025; all = say-pf _ (p .0) (p .1) (c .before .before .pf-table .ensures) })
+    let t = c .before .before .before in
+    let p = t .before .before .before .before .pre in
+    record { edition = edition2025; all = say-pf _ (p .0) (t .before .row-table .ensures) (p .1) (t .pf-table .ensures) })
     (λ c.
-    let p = c .before .before .before .before .before .before .before .before .pre in
-    ap length (c .before .before .walk .ensures .1 edition2025 (say-pf _ (p .0) (p .1) (c .before .before .before .before .before .pf-table .ensures))) ∙ within-length _ _)
+    let t = c .before .before .before .before .before .before in
+    let p = t .before .before .before .before .pre in
+    let all = say-pf _ (p .0) (t .before .row-table .ensures) (p .1) (t .pf-table .ensures) in
+    ap length (c .before .before .walk .ensures .1 edition2025 all) ∙ within-length _ _)
     (λ c.
-    let p = c .before .before .before .before .before .before .before .before .pre in
+    let t = c .before .before .before .before .before .before in
+    let p = t .before .before .before .before .pre in
     let w = c .before .before .walk .ensures in
-    let all = say-pf _ (p .0) (p .1) (c .before .before .before .before .before .pf-table .ensures) in
+    let all = say-pf _ (p .0) (t .before .row-table .ensures) (p .1) (t .pf-table .ensures) in
     (w .0 edition2025 all, w .1 edition2025 all)))
