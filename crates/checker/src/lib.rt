@@ -3,6 +3,7 @@ mod lines;
 mod state;
 mod turn;
 
+use layout::HOLDERS;
 use layout::KINDS;
 use layout::NAME_BYTES;
 use layout::ROW_BYTES;
@@ -74,7 +75,7 @@ fn third_kind(names: &[u8; NAME_BYTES], file: &[u8]) -> u32
 fn walk(
     names: &[u8; NAME_BYTES],
     rows: &[u8; ROW_BYTES],
-    below: &[[u8; KINDS]; KINDS],
+    below: &[[u8; KINDS]; HOLDERS],
     file: &[u8],
     room: usize,
     table: &mut [u32],

@@ -5,6 +5,7 @@ use crate::state;
 use crate::state::Last;
 use crate::state::State;
 use fields::Places;
+use layout::HOLDERS;
 use layout::KINDS;
 use layout::NAME_BYTES;
 use layout::ROW_BYTES;
@@ -154,7 +155,7 @@ fn filled_found(
 // The line as a record: its kind by its identifier, and its place by its kind.
 fn record_of(
     names: &[u8; NAME_BYTES],
-    below: &[[u8; KINDS]; KINDS],
+    below: &[[u8; KINDS]; HOLDERS],
     line: &[u8],
     st: State,
     p: Places,
@@ -201,7 +202,7 @@ fn read(
 fn recorded(
     names: &[u8; NAME_BYTES],
     rows: &[u8; ROW_BYTES],
-    below: &[[u8; KINDS]; KINDS],
+    below: &[[u8; KINDS]; HOLDERS],
     line: &[u8],
     st: State,
     p: Places,
@@ -220,7 +221,7 @@ fn recorded(
 fn lined(
     names: &[u8; NAME_BYTES],
     rows: &[u8; ROW_BYTES],
-    below: &[[u8; KINDS]; KINDS],
+    below: &[[u8; KINDS]; HOLDERS],
     file: &[u8],
     st: State,
 ) -> Stepped
@@ -241,7 +242,7 @@ fn lined(
 pub(crate) fn turn(
     names: &[u8; NAME_BYTES],
     rows: &[u8; ROW_BYTES],
-    below: &[[u8; KINDS]; KINDS],
+    below: &[[u8; KINDS]; HOLDERS],
     file: &[u8],
     st: State,
 ) -> Stepped

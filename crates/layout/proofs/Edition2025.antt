@@ -3,14 +3,14 @@ use Prim.Native.Nat.{ℕ}
 use mathlib.Core.Path.{_≡_, refl}
 use mathlib.Core.Bool.{Bool, true}
 use mathlib.Core.List.{List}
-use lib.Dec.{eqb}
+use lib.Dec.{eqb, ltb}
 use borrow.Author.Tests.{ne-eqb}
 use Rattle.dirf.specs.Bytes.{every, bytes-opens}
 use Rattle.dirf.specs.Kinds.{DECPF, DECPJ}
 use Rattle.dirf.specs.Below.{Children, underDECPF, underDECPJ, below2025}
 use Rattle.dirf.specs.Edition.{edition2025, edition-opens}
 use Rattle.dirf.proofs.Bools.{if-cases}
-use Rattle.layout.specs.Tables.{belowTable, nameIn, namesIn, baseIn, nameTable, slotOf, concat, rowsIn, countIn, rowIn, byteIn, rowOf}
+use Rattle.layout.specs.Tables.{holders, belowTable, nameIn, namesIn, baseIn, nameTable, slotOf, concat, rowsIn, countIn, rowIn, byteIn, rowOf}
 use Rattle.layout.specs.Tables.{formatOf, fillOf, needOf, holdsOf, recordOf, rowBytesOf, formatByte, fillByte, needByte, holdsByte}
 use Rattle.layout.specs.LaidOut.{LaidOut, isKind}
 
@@ -26,7 +26,7 @@ laidOut2025 =
     record {
       named-kinds = refl;
       laid-kinds = refl;
-      holders = each (λ r. isKind (r .0)) refl refl;
+      holds = each (λ r. ltb (r .0) holders) refl refl;
       held = each (λ r. every isKind (r .1)) refl refl;
       names = refl;
       name = refl;

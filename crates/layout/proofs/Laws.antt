@@ -16,11 +16,11 @@ use Rattle.dirf.specs.Edition.{Edition, kindIn, kindOf, nameOf, rowsOf, isBase}
 use Rattle.dirf.specs.Tree.{mayHold}
 use Rattle.dirf.proofs.Bools.{if-cases}
 use Rattle.fields.specs.Places.{mostFields}
-use Rattle.layout.specs.Tables.{kinds, nameIn, namesIn, baseIn, nameTable, rowBytes, recordBytes, rowIn, rowsIn, countIn, byteIn}
+use Rattle.layout.specs.Tables.{kinds, holders, nameIn, namesIn, baseIn, nameTable, rowBytes, recordBytes, rowIn, rowsIn, countIn, byteIn}
 use Rattle.layout.specs.Tables.{rowTable, recordOf, yes, yesIn, holdsIn, belowTable}
 use Rattle.layout.specs.LaidOut.{Say, SayBelow, isKind, LaidOut}
 use Rattle.layout.specs.Codes.{rowCodes, rowSaid}
-use Rattle.layout.proofs.Past.{by-kind, every-first, every-rest, some-past, isIn-past, lookup-past, rows-past}
+use Rattle.layout.proofs.Past.{below-or, by-kind, every-first, every-rest, some-past, isIn-past, lookup-past, rows-past}
 use Rattle.layout.proofs.Tab.{tab-at, tab-length, tab-same, tab-each, tab2-at, concat-drop}
 
 -- any table
@@ -113,15 +113,15 @@ module _ (e : Edition) (l : LaidOut e) where
 
   no-rows : (t : List ℕ) (k : ℕ) → kinds ≤ k → rowsIn t k ≡ rowsOf e k
   unfolding rowsIn countIn rowsOf
-  no-rows t k h = rw (le-ltb k kinds h) (sym (rows-past k h (e .layout) (l .laid-kinds)))
+  no-rows t k h = rw (le-ltb k kinds h) (sym (rows-past kinds k h (e .layout) (l .laid-kinds)))
 
   no-name : (t : List ℕ) (k : ℕ) → kinds ≤ k → nameIn t k ≡ nameOf e k
   unfolding nameIn nameOf
-  no-name t k h = rw (le-ltb k kinds h, lookup-past k h [] (e .names) (l .named-kinds))
+  no-name t k h = rw (le-ltb k kinds h, lookup-past kinds k h [] (e .names) (l .named-kinds))
 
   no-base : (t : List ℕ) (k : ℕ) → kinds ≤ k → baseIn t k ≡ isBase e k
   unfolding nameIn baseIn isBase
-  no-base t k h = rw (le-ltb k kinds h, some-past k h (λ n. n .0) (e .names) (l .named-kinds))
+  no-base t k h = rw (le-ltb k kinds h, some-past kinds k h (λ n. n .0) (e .names) (l .named-kinds))
 
   pub says : Say e (nameTable e) (rowTable e)
   unfolding kindOf
@@ -134,21 +134,21 @@ module _ (e : Edition) (l : LaidOut e) where
       }
 
   module _ (d h k : ℕ) where
-    yes-there : h < kinds → k < kinds → eqb (getD (getD (belowTable e d) h []) k 0) 89 ≡ isIn k (lookup [] (e .below d) h)
+    yes-there : h < holders → k < kinds → eqb (getD (getD (belowTable e d) h []) k 0) 89 ≡ isIn k (lookup [] (e .below d) h)
     unfolding belowTable
     yes-there a b =
-        ap (λ x. eqb x 89) (tab2-at (λ h k. yes (isIn k (lookup [] (e .below d) h))) 0 kinds kinds h k a b)
+        ap (λ x. eqb x 89) (tab2-at (λ h k. yes (isIn k (lookup [] (e .below d) h))) 0 holders kinds h k a b)
         ∙ yes-says (isIn k (lookup [] (e .below d) h))
 
     yes-below : yesIn (belowTable e d) h k ≡ isIn k (lookup [] (e .below d) h)
     unfolding yesIn isIn some
     yes-below =
-        by-kind h
+        below-or holders h
         (λ a.
         by-kind k
-        (λ b. rw (lt-ltb h kinds a, lt-ltb k kinds b) (yes-there a b))
-        (λ b. simp (le-ltb k kinds b, and-false, isIn-past k b (lookup [] (e .below d) h) (children (e .below d) (l .held d) h))))
-        (λ a. rw (le-ltb h kinds a, lookup-past h a [] (e .below d) (l .holders d)))
+        (λ b. rw (lt-ltb h holders a, lt-ltb k kinds b) (yes-there a b))
+        (λ b. simp (le-ltb k kinds b, and-false, isIn-past kinds k b (lookup [] (e .below d) h) (children (e .below d) (l .held d) h))))
+        (λ a. rw (le-ltb h holders a, lookup-past holders h a [] (e .below d) (l .holds d)))
 
   pub says-below : (d : ℕ) → SayBelow e d (belowTable e d)
   unfolding holdsIn mayHold

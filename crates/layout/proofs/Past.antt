@@ -13,13 +13,17 @@ use Rattle.dirf.proofs.Bools.{and-left, and-right}
 use Rattle.layout.specs.Tables.{kinds}
 use Rattle.layout.specs.LaidOut.{isKind}
 
+-- below a number, or from it on
+pub below-or : (n : ℕ) {P : Type 0} (k : ℕ) → (k < n → P) → (n ≤ k → P) → P
+below-or n {P} k under past = go (ltb k n) refl
+  where
+    go : (b : Bool) → ltb k n ≡ b → P
+    go true e = under (ltb-true k n e)
+    go false e = past (ltb-false k n e)
+
 -- a kind, 0 included, or past the kinds
 pub by-kind : {P : Type 0} (k : ℕ) → (k < kinds → P) → (kinds ≤ k → P) → P
-by-kind {P} k kind past = go (isKind k) refl
-  where
-    go : (b : Bool) → isKind k ≡ b → P
-    go true e = kind (ltb-true k kinds e)
-    go false e = past (ltb-false k kinds e)
+by-kind k = below-or kinds k
 
 module _ {A : Type 0} (test : A → Bool) (x : A) (xs : List A) (all : every test (x ∷ xs) ≡ true) where
   pub every-first : test x ≡ true
@@ -30,31 +34,31 @@ module _ {A : Type 0} (test : A → Bool) (x : A) (xs : List A) (all : every tes
   unfolding every
   every-rest = and-right (test x) (every test xs) all
 
-module _ (k : ℕ) (past : kinds ≤ k) where
-  other : (x : ℕ) → isKind x ≡ true → eqb k x ≡ false
-  other x e = let l = ltb-true x kinds e in ne-eqb k x (λ q. omega arith)
+module _ (n k : ℕ) (past : n ≤ k) where
+  other : (x : ℕ) → ltb x n ≡ true → eqb k x ≡ false
+  other x e = let l = ltb-true x n e in ne-eqb k x (λ q. omega arith)
 
-  pub some-past : {A : Type 0} (f : A → ℕ) (xs : List A) → every (λ x. isKind (f x)) xs ≡ true → some (λ x. eqb k (f x)) xs ≡ false
+  pub some-past : {A : Type 0} (f : A → ℕ) (xs : List A) → every (λ x. ltb (f x) n) xs ≡ true → some (λ x. eqb k (f x)) xs ≡ false
   unfolding some
   some-past f [] e = refl
   some-past f (x ∷ xs) e =
-      rw (other (f x) (every-first (λ x. isKind (f x)) x xs e))
-      (some-past f xs (every-rest (λ x. isKind (f x)) x xs e))
+      rw (other (f x) (every-first (λ x. ltb (f x) n) x xs e))
+      (some-past f xs (every-rest (λ x. ltb (f x) n) x xs e))
 
-  pub isIn-past : (xs : List ℕ) → every isKind xs ≡ true → isIn k xs ≡ false
+  pub isIn-past : (xs : List ℕ) → every (λ x. ltb x n) xs ≡ true → isIn k xs ≡ false
   unfolding isIn
   isIn-past xs e = some-past (λ x. x) xs e
 
-  pub lookup-past : {A : Type 0} (d : A) (rs : List (ℕ × A)) → every (λ r. isKind (r .0)) rs ≡ true → lookup d rs k ≡ d
+  pub lookup-past : {A : Type 0} (d : A) (rs : List (ℕ × A)) → every (λ r. ltb (r .0) n) rs ≡ true → lookup d rs k ≡ d
   unfolding lookup
   lookup-past d [] e = refl
   lookup-past d (r ∷ rs) e =
-      rw (other (r .0) (every-first (λ r. isKind (r .0)) r rs e))
-      (lookup-past d rs (every-rest (λ r. isKind (r .0)) r rs e))
+      rw (other (r .0) (every-first (λ r. ltb (r .0) n) r rs e))
+      (lookup-past d rs (every-rest (λ r. ltb (r .0) n) r rs e))
 
-  pub rows-past : (gs : List (List ℕ × List Row)) → every (λ g. every isKind (g .0)) gs ≡ true → edition.rowsIn gs k ≡ []
+  pub rows-past : (gs : List (List ℕ × List Row)) → every (λ g. every (λ x. ltb x n) (g .0)) gs ≡ true → edition.rowsIn gs k ≡ []
   unfolding edition.rowsIn
   rows-past [] e = refl
   rows-past (g ∷ gs) e =
-      rw (isIn-past (g .0) (every-first (λ g. every isKind (g .0)) g gs e))
-      (rows-past gs (every-rest (λ g. every isKind (g .0)) g gs e))
+      rw (isIn-past (g .0) (every-first (λ g. every (λ x. ltb x n) (g .0)) g gs e))
+      (rows-past gs (every-rest (λ g. every (λ x. ltb x n) (g .0)) g gs e))

@@ -8,7 +8,7 @@ use lib.ListN.{length, replicate}
 use Rattle.dirf.specs.Bytes.{Text, every}
 use Rattle.dirf.specs.Edition.{Edition, kindIn, kindOf, nameOf, rowsOf, isBase}
 use Rattle.dirf.specs.Tree.{mayHold}
-use Rattle.layout.specs.Tables.{tab, kinds, nameIn, namesIn, baseIn, nameTable, recordBytes, recordOf, rowsIn, holdsIn}
+use Rattle.layout.specs.Tables.{tab, kinds, holders, nameIn, namesIn, baseIn, nameTable, recordBytes, recordOf, rowsIn, holdsIn}
 
 -- lent tables say an edition: whoever reads them reads what the edition has
 pub record Say (e : Edition) (names rows : List ℕ) : Type 0 where
@@ -29,7 +29,7 @@ pub record LaidOut (e : Edition) : Type 0 where
   -- every number in the edition's lists is a kind's
   pub named-kinds : every (λ n. isKind (n .0)) (e .names) ≡ true
   pub laid-kinds : every (λ g. every isKind (g .0)) (e .layout) ≡ true
-  pub holders : (d : ℕ) → every (λ r. isKind (r .0)) (e .below d) ≡ true
+  pub holds : (d : ℕ) → every (λ r. ltb (r .0) holders) (e .below d) ≡ true
   pub held : (d : ℕ) → every (λ r. every isKind (r .1)) (e .below d) ≡ true
   -- identifiers and rows fit their places, and read back
   pub names : namesIn (nameTable e) ≡ e .names

@@ -21,6 +21,10 @@ tab f i (suc n) = f i ∷ tab f (suc i) n
 abbrev pub kinds : ℕ
 kinds = 74
 
+-- nothing stands below a kind from this number on: no row for it in the tables of what stands below what
+abbrev pub holders : ℕ
+holders = 63
+
 -- a slot of the table of identifiers: the length, then seven bytes
 abbrev pub slot : ℕ
 slot = 8
@@ -101,7 +105,7 @@ rowsIn t k = tab (rowIn t k) 0 (countIn t k)
 
 -- Y in the row of h, at k
 unfoldable pub yesIn : List (List ℕ) → ℕ → ℕ → Bool
-yesIn t h k = ltb h kinds && ltb k kinds && eqb (getD (getD t h []) k 0) 89
+yesIn t h k = ltb h holders && ltb k kinds && eqb (getD (getD t h []) k 0) 89
 
 -- may a record of kind k stand directly below one of kind h, which belongs to one of kind u, by the table of the declarant d?
 unfoldable pub holdsIn : List (List ℕ) → ℕ → ℕ → ℕ → ℕ → Bool
@@ -124,7 +128,7 @@ yes false = 46
 
 -- of a declarant
 unfoldable pub belowTable : Edition → ℕ → List (List ℕ)
-belowTable e d = tab (λ h. tab (λ k. yes (isIn k (lookup [] (e .below d) h))) 0 kinds) 0 kinds
+belowTable e d = tab (λ h. tab (λ k. yes (isIn k (lookup [] (e .below d) h))) 0 kinds) 0 holders
 
 -- the five bytes of a row
 unfoldable pub formatByte : Format → ℕ

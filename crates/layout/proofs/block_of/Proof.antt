@@ -6,6 +6,7 @@ use borrow.Author.Needs.{needs}
 use Rattle.dirf.specs.Bytes.{every, bytes-opens}
 use Rattle.dirf.specs.Tree.{blockOf}
 use Rattle.fields.proofs.Arms.{keys}
+use Rattle.layout.specs.Tables.{kinds}
 use Rattle.layout.proofs.Past.{lookup-past}
 use Rattle.layout.proofs.Arms.{between, from, seen}
 use Rattle.layout.proofs.block_of.Statement.{statement}
@@ -17,7 +18,7 @@ singles = (56 ∷ []) ∷ (52 ∷ 54 ∷ []) ∷ (6 ∷ 44 ∷ []) ∷ []
 
 none : (d k : ℕ) → 74 ≤ k → 0 ≡ blockOf d k
 unfolding every blockOf
-none d k h = sym (lookup-past k h 0 _ refl)
+none d k h = sym (lookup-past kinds k h 0 _ refl)
 
 pub block-of-spec : {M : Type 1} → statement M
 unfolding bytes-opens blockOf seen

@@ -7,6 +7,7 @@ use borrow.Author.Needs.{needs}
 use Rattle.dirf.specs.Bytes.{bytes-opens}
 use Rattle.dirf.specs.Kinds.{later, isLater, kinds-opens}
 use Rattle.fields.proofs.Arms.{keys}
+use Rattle.layout.specs.Tables.{kinds}
 use Rattle.layout.proofs.Past.{isIn-past}
 use Rattle.layout.proofs.Arms.{between, from, seen}
 use Rattle.layout.proofs.is_later.Statement.{statement}
@@ -21,7 +22,7 @@ is-later-spec =
     (λ c. search (needs, between isLater false singles 0 28 refl))
     (λ c. search (needs, between isLater false singles 30 45 refl))
     (λ c. search (needs, between isLater false singles 48 63 refl))
-    (λ c. search (needs, from isLater false singles 73 74 refl (λ k h. sym (isIn-past k h later refl))))
+    (λ c. search (needs, from isLater false singles 73 74 refl (λ k h. sym (isIn-past kinds k h later refl))))
     (λ c. keys isLater true 20 (24 ∷ []) refl (c .match .keys1))
     (λ c. search (needs, between isLater true singles 28 30 refl))
     (λ c. search (needs, between isLater true singles 45 48 refl))
