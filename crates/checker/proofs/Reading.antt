@@ -23,8 +23,8 @@ use Rattle.dirf.proofs.Lists.{listed}
 use Rattle.dirf.proofs.Asked.{rule-kept}
 use Rattle.dirf.proofs.RulesPut.{first-append}
 use Rattle.dirf.proofs.History.{table-length}
-use Rattle.dirf.proofs.OpenRecords.{open-records}
-use Rattle.dirf.proofs.ValuePlace.{open-depth}
+use Rattle.dirf.proofs.OpenRecords.{open-depth}
+use Rattle.dirf.proofs.Opened.{open-records}
 use Rattle.layout.specs.Tables.{namesIn}
 use Rattle.layout.specs.LaidOut.{SayBelow}
 use Rattle.checker.specs.Lines.{afterLine as behindLine, thirdKind}

@@ -11,7 +11,7 @@ pub mod RuleLaws
 pub mod CleanLaws
 pub mod FieldLaws
 pub mod TreeLaws
-pub mod LookBack
+pub mod KeysSay
 pub mod TestsSay
 pub mod RunLaws
 pub mod Answered
@@ -22,7 +22,7 @@ pub mod Levels
 pub mod Parents
 pub mod History
 pub mod OpenRecords
-pub mod Siblings
+pub mod Opened
 pub mod Whose
 pub mod Slips
 pub mod Counts
@@ -35,5 +35,4 @@ pub mod NumbersBack
 pub mod Base
 pub mod WriterBack
 pub mod Demands
-pub mod ValuePlace
 pub mod LastOfKind

@@ -35,7 +35,7 @@ use Rattle.dirf.proofs.Bools.{and-left, and-right}
 use Rattle.dirf.proofs.CleanLaws.{clean-none, clean-unclean, clean-front, cut-says, stray-says}
 use Rattle.dirf.proofs.FieldLaws.{says-13, says-14, says-15, says-16, says-17, says-18}
 use Rattle.dirf.proofs.TreeLaws.{stands-says}
-use Rattle.dirf.proofs.LookBack.{Under, LastOne, repeated-says, not-after-says, has-key-says}
+use Rattle.dirf.proofs.KeysSay.{Under, LastOne, repeated-says, not-after-says, has-key-says}
 
 -- an identifier is unknown exactly when no name of the edition is it
 unknown-says : (names : List (ℕ × Text)) → every (λ n. not (eqb (n .0) 0)) names ≡ true → (s : Text)

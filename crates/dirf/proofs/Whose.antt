@@ -4,58 +4,36 @@ use mathlib.Core.Path.{_≡_, refl, sym, ap, ap₂, _∙_, subst}
 use mathlib.Core.Bool.{Bool, true, false, not, true≢false}
 use mathlib.Core.Logic.{_⊎_, inl, inr, ⊎-elim}
 use mathlib.Core.List.{List, [], _∷_}
-use mathlib.Core.Option.{Option, none, some}
+use mathlib.Core.Option.{Option}
 use native.Mathlib.Omega.{arith}
 use lib.Dec.{eqb, ltb}
 use lib.ListN.{length, getD}
-use borrow.Author.Tests.{eqb-true, eq-eqb, ltb-true, ltb-false, le-leb, not-true}
+use borrow.Author.Tests.{eqb-true, eq-eqb, ltb-true, ltb-false, not-true}
 use Rattle.dirf.specs.Bytes.{every, isIn, lookup, bytes-opens}
 use Rattle.dirf.specs.Kinds.{Dirf, RESPO, IDREC, SCP, FIMDirf, declarants, alone, blocks, withIDREC, isValue, kinds-opens}
 use Rattle.dirf.specs.Edition.{Edition}
 use Rattle.dirf.specs.Tree.{Rec, Open, opening, declarant, blockOf, mayHold, kindOfFirst, numberOfFirst, place, parentOf, inOrder}
 use Rattle.dirf.specs.Tree.{isPlaced, mayStand}
-use Rattle.dirf.specs.Keys.{lastUnder, isSome}
 use Rattle.dirf.specs.Check.{Entry, entryOf, tableOf}
 use Rattle.dirf.specs.Theorems.Plain.{_∈_}
 use Rattle.dirf.specs.Theorems.Sound.{level, Nested, Sound}
 use Rattle.dirf.specs.Theorems.Whose.{entryAt, kindAt, parentAt, IsLine, BeneficiaryOrValue, IsOf, Owned, Whose}
 use Rattle.dirf.specs.Theorems.Whose.{Sort, stands-alone, a-block, an-IDREC, a-beneficiary, a-value-record}
 use Rattle.dirf.proofs.Bools.{and-left, and-right, or-cases, if-cases}
-use Rattle.dirf.proofs.Says.{isIn-says, it, on}
+use Rattle.dirf.proofs.Says.{isIn-says}
 use Rattle.dirf.proofs.Lists.{every-in, every-at}
-use Rattle.dirf.proofs.LookBack.{Under, repeated-says}
 use Rattle.dirf.proofs.Levels.{value-level, beneficiary-level, block-level, alone-level, is-holder, is-beneficiary, below-holder}
 use Rattle.dirf.proofs.Levels.{below-beneficiary, sort-below, deep-block, level-in}
 use Rattle.dirf.proofs.Parents.{has-parent}
 use Rattle.dirf.proofs.History.{History, start, next, answer-table, table-length, entry-last, entry-earlier}
 use Rattle.dirf.proofs.History.{line-cases, declarant-line}
-use Rattle.dirf.proofs.OpenRecords.{Known, OpenRecords, innermost, first-number, first-kind, Holder, nests, placed}
-use Rattle.dirf.proofs.Siblings.{Kids, Siblings, siblings-at, order-on, own, own-none}
+use Rattle.dirf.proofs.OpenRecords.{Known, Last, OpenRecords, innermost, first-number, first-kind, last-least, Holder, nests}
+use Rattle.dirf.proofs.Opened.{placed, unheld}
 
 own-block : (e : Edition) (d h u k : ℕ) → mayHold e d h u k ≡ true → h ≡ IDREC → u ≡ blockOf d k
 unfolding mayHold
 own-block e d h u k holds i =
     sym (eqb-true (blockOf d k) u (rw (eq-eqb h IDREC i) at (and-right (isIn k (lookup [] (e .below d) h)) _ holds)))
-
--- the record of a line of a table is one of those read
-abbrev ReadAs : List Rec → ℕ → Type 0
-ReadAs before m = (r : Rec) × (r ∈ before) × Under (parentAt (tableOf before) m) (kindAt (tableOf before) m) r
-
-read-of : (before : List Rec) (m : ℕ) → m ≤ length before → 1 ≤ m → ReadAs before m
-unfolding entryOf
-read-of [] m = λ h a. absurd (omega arith)
-read-of (r ∷ rs) m =
-    line-cases (λ m. 1 ≤ m → ReadAs (r ∷ rs) m) (length rs) m
-    (λ h a.
-    let x = read-of rs m h a in
-    let same = entry-earlier r rs m h in
-    (x .0, on (x .1), (x .2 .0 ∙ sym (ap (λ y. y .parent) same), x .2 .1 ∙ sym (ap (λ y. y .kind) same))))
-    (λ _. (r, it, (sym (ap (λ y. y .parent) (entry-last r rs)), sym (ap (λ y. y .kind) (entry-last r rs)))))
-
--- a record that was read is found by looking back
-clash : (before : List Rec) (p j : ℕ) → (r : Rec) × (r ∈ before) × Under p j r → lastUnder before p j ≡ none → ⊥
-unfolding isSome
-clash before p j r q = true≢false (sym (repeated-says before p j .1 r) ∙ ap isSome q)
 
 -- what the kind of a block says of it
 opens-later : {j : ℕ} → j ∈ blocks → (isValue j ≡ false) × (IDREC < j)
@@ -75,14 +53,6 @@ unfolding bytes-opens kinds-opens level
 idrec-deep {k} q = subst (λ k. 0 < level k) (sym q) (omega arith)
 
 module _ (e : Edition) (sound : Sound e) where
-  -- nothing holds a record that stands alone
-  unheld : {before : List Rec} → History e before → (k : ℕ) → level k ≡ 0 → place e before k .up ≡ []
-  unheld {before} h k flat = go (place e before k .up) (placed e sound h k .holder)
-    where
-      go : (up : List Open) → Holder e (declarant before) k up → up ≡ []
-      go [] holds = refl
-      go (o ∷ outer) holds = absurd (omega (arith, nests e (declarant before) k sound (o .kind) (kindOfFirst outer) holds .deeper))
-
   -- a record that stands alone is one of the opening lines, or FIMDirf
   abbrev Opens : List Rec → ℕ → Type 0
   Opens before k = (length before < 3) × (isIn k (getD opening (length before) []) ≡ true)
@@ -97,7 +67,7 @@ module _ (e : Edition) (sound : Sound e) where
       ⊎-elim (λ f. inr (eqb-true k FIMDirf f))
       (λ p.
       let held = ltb-true 0 (length (place e before k .up)) (and-left _ (inOrder (place e before k .last) k) p) in
-      absurd (omega (arith, ap length (unheld h k flat), held)))
+      absurd (omega (arith, ap length (unheld e sound h k (λ z. omega arith)), held)))
       (or-cases (eqb k FIMDirf) (isPlaced (place e before k) k) i))
 
   -- the declarant is read as line 3
@@ -168,7 +138,7 @@ module _ (e : Edition) (sound : Sound e) where
       known : Known (read .before) o outer
       rest : OpenRecords (read .before) (o .number) (level (o .kind)) outer
       holds : mayHold e (declarant (read .before)) (o .kind) (kindOfFirst outer) (read .this .kind) ≡ true
-      siblings : Siblings (read .before) last (o ∷ outer)
+      known-last : Last (read .before) last (o ∷ outer)
       ordered : inOrder last (read .this .kind) ≡ true
 
     held : (n : ℕ) → IsLine t n → 0 < level (kindAt t n) → Held n
@@ -176,7 +146,7 @@ module _ (e : Edition) (sound : Sound e) where
     held n l deep =
         let up = has-parent e before k (rw (x .entry, kindAt) at deep) (x .stands) in
         let q = placed e sound (x .history) k in
-        go (place e before k .up) refl (q .known) (q .holder) (siblings-at e sound (x .history) k) up
+        go (place e before k .up) refl (q .known) (q .holder) (q .last) up
       where
         x : Read n
         x = line n l
@@ -191,10 +161,10 @@ module _ (e : Edition) (sound : Sound e) where
         c = place e before k .last
 
         go : (up : List Open) → place e before k .up ≡ up → OpenRecords before (suc (length before)) (level k) up
-            → Holder e (declarant before) k up → Siblings before c up
+            → Holder e (declarant before) k up → Last before c up
             → (3 ≤ length before) × (0 < length up) × (inOrder c k ≡ true) → Held n
-        go [] u known holds siblings h = absurd (omega (arith, h .1))
-        go (o ∷ outer) u (innermost a b known rest) holds siblings h =
+        go [] u known holds last h = absurd (omega (arith, h .1))
+        go (o ∷ outer) u (innermost a b known rest) holds last h =
             record {
               read = x;
               o = o;
@@ -206,7 +176,7 @@ module _ (e : Edition) (sound : Sound e) where
               known = known;
               rest = rest;
               holds = holds;
-              siblings = siblings;
+              known-last = last;
               ordered = h .2;
             }
 
@@ -267,9 +237,8 @@ module _ (e : Edition) (sound : Sound e) where
 
     -- and no block stands between: its order among the declarant's records would be broken
     no-block : (n : ℕ) → IsLine t n → kindAt t n ≡ IDREC → (m : ℕ) → parentAt t n < m → m < n → kindAt t m ∈ blocks → ⊥
-    unfolding entryOf numberOfFirst inOrder
-    no-block n l i m over under block =
-        ⊎-elim inside (λ q. read-later (y .last) (y .o) k (y .siblings .0) (sym (y .parent) ∙ q) (y .ordered) later) (idrec-holder n l i)
+    unfolding entryOf numberOfFirst
+    no-block n l i m over under block = ⊎-elim inside beside (idrec-holder n l i)
       where
         y : Held n
         y = held n l (idrec-deep i)
@@ -277,50 +246,47 @@ module _ (e : Edition) (sound : Sound e) where
         x : Read n
         x = y .read
 
-        before : List Rec
-        before = x .before
-
         s : Below n (parentAt t n)
         s = below n l (idrec-deep i)
 
-        k : ℕ
-        k = x .this .kind
+        small : m ≤ length (x .before)
+        small = omega (arith, x .number)
 
-        j : ℕ
-        j = kindAt t m
+        parent : parentAt (tableOf (x .before)) m ≡ 3
+        parent =
+            ap (λ z. z .parent) (sym (x .earlier m small)) ∙ block-third m (omega (arith, s .above .0), omega (arith, l .1)) block .1
 
-        later : k < j
-        later = omega (arith, ap (λ z. z .kind) (x .entry), i, opens-later block .1)
+        kind : kindAt t m ≡ kindAt (tableOf (x .before)) m
+        kind = ap (λ z. z .kind) (x .earlier m small)
 
-        -- below the declarant nothing of a later kind was read than what is in order there, and so not this block
-        read-later : (c : Option Open) (o : Open) (k : ℕ) → Kids before c o → o .number ≡ 3 → inOrder c k ≡ true → k < j → ⊥
-        read-later c o k kids q ordered later =
-            let small : m ≤ length before = omega (arith, x .number) in
-            let is : IsLine t m = (omega (arith, s .above .0), omega (arith, l .1)) in
-            let r = read-of before m small (is .0) in
-            let same = x .earlier m small in
-            let parent = r .2 .0 ∙ sym (ap (λ z. z .parent) same) ∙ block-third m is block .1 in
-            clash before 3 j (r .0, r .1, (parent, r .2 .1 ∙ sym (ap (λ z. z .kind) same)))
-            (ap (λ p. lastUnder before p j) (sym q) ∙ kids j (opens-later block .0) (order-on c k j ordered later)
-            ∙ own-none before c k j ordered later)
+        opens : isValue (kindAt (tableOf (x .before)) m) ≡ false
+        opens = ap isValue (sym kind) ∙ opens-later block .0
 
-        -- inside a block that takes an IDREC: one that came after that block would have closed it
+        -- below the declarant no kind opened that is later than the IDREC,
+        beside : parentAt t n ≡ 3 → ⊥
+        beside q =
+            let least = last-least (x .before) (y .last) (y .o ∷ y .outer) (x .this .kind) (λ _. y .ordered) (y .known-last) in
+            omega (
+              arith,
+              least m small (omega (arith, q, y .parent)) (parent ∙ sym q ∙ y .parent) opens,
+              kind,
+              opens-later block .1,
+              ap (λ z. z .kind) (x .entry),
+              i,
+            )
+
+        -- nor one that is later than a block that takes an IDREC and is open still: this would be SCP
         inside : kindAt t (parentAt t n) ∈ withIDREC → ⊥
         inside w =
             let o = y .o in
             let first = x .earlier (o .number) (omega (arith, x .number, y .above)) in
             let w′ = with-IDREC w in
             let kind′ : kindAt t (parentAt t n) ≡ o .kind = ap (kindAt t) (y .parent) ∙ ap (λ z. z .kind) first ∙ y .known .kind in
-            let scp : j ≡ SCP = deep-block block (omega (arith, s .between m over under, w′ .1)) in
+            let scp : kindAt t m ≡ SCP = deep-block block (omega (arith, s .between m over under, w′ .1)) in
             let outer-is : numberOfFirst (y .outer) ≡ 3 =
             sym (y .known .parent) ∙ sym (ap (λ z. z .parent) first) ∙ ap (parentAt t) (sym (y .parent))
             ∙ block-third (parentAt t n) (above-is-line l (s .above)) (w′ .0) .1 in
-            go (y .outer) (y .siblings .1) outer-is (omega (arith, w′ .2, kind′, scp))
-          where
-            go : (outer : List Open) → Siblings before (some (y .o)) outer → numberOfFirst outer ≡ 3 → y .o .kind < j → ⊥
-            go [] siblings q later = omega arith
-            go (d ∷ ds) siblings q later =
-                read-later (some (y .o)) d (y .o .kind) (siblings .0) q (le-leb (y .o .kind) (y .o .kind) (omega arith)) later
+            omega (arith, y .known .latest m small (omega (arith, outer-is)) (parent ∙ sym outer-is) opens, kind, w′ .2, kind′, scp)
 
     -- each line is of a sort
     sorted : (n : ℕ) → IsLine t n → Sort (kindAt t n)
@@ -351,7 +317,7 @@ module _ (e : Edition) (sound : Sound e) where
     nobodys n l m =
         let x = line n l in
         let flat : level (x .this .kind) ≡ 0 = ap level (sym (ap (λ y. y .kind) (x .entry))) ∙ alone-level m in
-        ap (λ y. y .parent) (x .entry) ∙ x .parent ∙ ap numberOfFirst (unheld (x .history) (x .this .kind) flat)
+        ap (λ y. y .parent) (x .entry) ∙ x .parent ∙ ap numberOfFirst (unheld e sound (x .history) (x .this .kind) (λ z. omega arith))
 
     line-3 : 3 ≤ length t → kindAt t 3 ∈ declarants
     unfolding entryOf opening mayStand

@@ -19,7 +19,8 @@ use Rattle.dirf.specs.Theorems.Sound.{level, Sound}
 use Rattle.dirf.proofs.Says.{isIn-says}
 use Rattle.dirf.proofs.Levels.{key-below, value-level}
 use Rattle.dirf.proofs.Parents.{has-parent}
-use Rattle.dirf.proofs.OpenRecords.{OpenRecords, none-open, innermost, first-number, placed}
+use Rattle.dirf.proofs.OpenRecords.{first-line}
+use Rattle.dirf.proofs.Opened.{placed}
 use Rattle.dirf.proofs.LastOfKind.{lastOf, ifUnder, last-by-kind}
 use Rattle.fields.specs.Places.{keyParts}
 use Rattle.fields.proofs.PlaceLaws.{key-of-cells}
@@ -29,12 +30,6 @@ use Rattle.checker.specs.declared.state.Past.{Past}
 use Rattle.checker.specs.declared.state.State.{State}
 use Rattle.checker.proofs.state.Sums.{parentIn, Sums}
 
--- an open record has a line
-line-of : {before : List Rec} {n l : ℕ} {up : List Open} → OpenRecords before n l up → 0 < length up → 0 < numberOfFirst up
-unfolding numberOfFirst
-line-of (none-open z) h = absurd (omega arith)
-line-of (innermost a b known rest) h = omega (arith, first-number rest)
-
 module _ (e : Edition) (sound : Sound e) (text : Text) (st : State) (past : Past) (before : List Rec) (h : Sums e text st past before) (k : ℕ) (small : k < kinds)
     (stands : mayStand e before k ≡ true) where
   abbrev p : ℕ
@@ -42,7 +37,7 @@ module _ (e : Edition) (sound : Sound e) (text : Text) (st : State) (past : Past
 
   line-above : 0 < level k → 0 < p
   unfolding parentOf
-  line-above deep = line-of (placed e sound (h .history) k .known) (has-parent e before k deep stands .1)
+  line-above deep = first-line (placed e sound (h .history) k .known) (has-parent e before k deep stands .1)
 
   stood-is : stoodOn (lastIn past k) p ≡ eqb (parentIn (lastOf before k)) p
   unfolding stoodOn lastIn

@@ -22,8 +22,8 @@ use Rattle.dirf.proofs.Bools.{if-cases}
 use Rattle.dirf.proofs.Says.{isIn-says}
 use Rattle.dirf.proofs.Levels.{opens-level, value-level}
 use Rattle.dirf.proofs.History.{next}
-use Rattle.dirf.proofs.OpenRecords.{Placed, placed}
-use Rattle.dirf.proofs.ValuePlace.{open-depth}
+use Rattle.dirf.proofs.OpenRecords.{Placed, open-depth}
+use Rattle.dirf.proofs.Opened.{placed}
 use Rattle.dirf.proofs.LastOfKind.{lastOf}
 use Rattle.fields.specs.Places.{partOf}
 use Rattle.layout.specs.Tables.{kinds}
@@ -158,7 +158,7 @@ module _ (e : Edition) (sound : Sound e) (text : Text) (st : State) (past : Past
       (pastAfter past k (above (st .path .lines) (heldAt below st k)) (st .at) (length line)) (r ∷ before)
   unfolding stateAfter closed bytesOf opened parentOf isValue opensNothing
   sums-next there =
-      let q : Placed e (declarant before) k before (suc (length before)) (opened before) (place e before k .up) =
+      let q : Placed e (declarant before) k before (suc (length before)) (opened before) (place e before k) =
       placed e sound (h .history) k in
       let held = held-same e sound text st past before h below say k stands in
       record {

@@ -18,7 +18,7 @@ use Rattle.dirf.specs.Check.{bytesOf}
 use Rattle.dirf.specs.Theorems.Sound.{Sound}
 use Rattle.dirf.proofs.History.{History, start}
 use Rattle.dirf.proofs.Parents.{has-parent}
-use Rattle.dirf.proofs.OpenRecords.{Holder, nests, placed}
+use Rattle.dirf.proofs.Opened.{unheld}
 use Rattle.dirf.proofs.LastOfKind.{lastOf}
 use Rattle.layout.specs.Tables.{kinds, holdsIn}
 use Rattle.layout.specs.LaidOut.{SayBelow}
@@ -132,16 +132,6 @@ module _ (e : Edition) (sound : Sound e) (text : Text) (st : State) (past : Past
       (subst (λ n. Located p q (heldIn below (declarant before) (p .kinds) k n)) (sym (h .path .depth))
       (locate e (declarant before) below (say later) p k none (opened before) (h .path .stack) (sym (h .path .depth)))))
 
-  -- nothing holds an opening line
-  unheld : length before < 3 → mayStand e before k ≡ true → place e before k .up ≡ []
-  unheld few stands = go (place e before k .up) (placed e sound (h .history) k .holder)
-    where
-      go : (up : List Open) → Holder e (declarant before) k up → up ≡ []
-      go [] holds = refl
-      go (o ∷ outer) holds =
-          let deep = nests e (declarant before) k sound (o .kind) (kindOfFirst outer) holds .deeper in
-          absurd (omega (arith, has-parent e before k (omega arith) stands .0))
-
   -- a record that may stand has as many open records outside it as the code finds
   pub held-same : mayStand e before k ≡ true → (heldAt below st k ≡ length (place e before k .up)) × Stack (st .path) (place e before k .up)
   unfolding heldAt opening
@@ -150,7 +140,7 @@ module _ (e : Edition) (sound : Sound e) (text : Text) (st : State) (past : Past
       go : (t : Bool) → ltb (length before) 3 ≡ t → (heldAt below st k ≡ length (place e before k .up)) × Stack (st .path) (place e before k .up)
       go true t =
           let few = ltb-true (length before) 3 t in
-          rw (unheld few stands) (rw (lt-ltb (st .count) 3 (omega (arith, h .count))), tt)
+          rw (unheld e sound (h .history) k (λ deep. omega (arith, few, has-parent e before k deep stands .0))) (rw (lt-ltb (st .count) 3 (omega (arith, h .count))), tt)
       go false t = let l = located (ltb-false (length before) 3 t) in (l .deep, l .stack)
 
   pub parent-same : mayStand e before k ≡ true → above (st .path .lines) (heldAt below st k) ≡ parentOf e before k
