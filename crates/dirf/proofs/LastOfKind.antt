@@ -120,7 +120,8 @@ module _ (e : Edition) (sound : Sound e) where
           → Tells (r ∷ before) (numberOfFirst (opened (r ∷ before))) j
       go true w ih =
           let inside = parent ∙ ap numberOfFirst (value-place e sound hist (r .kind) w stands) in
-          rw (value-closes-nothing e sound r hist w stands parent) (tells-on r before (numberOfFirst (opened before)) j (λ _. inside) (λ _. ih))
+          rw (value-closes-nothing e sound r hist w stands parent)
+          (tells-on r before (numberOfFirst (opened before)) j (λ _. inside) (λ _. ih))
       go false w ih =
           let p = suc (length before) in
           rw (opens-first r before w)

@@ -1,7 +1,7 @@
 -- The level of a kind says what it is: value record, beneficiary, IDREC or SCP.
 use Prim.Native.Nat.{ℕ, _<_}
 use mathlib.Core.Path.{_≡_, refl, sym, ap, _∙_}
-use mathlib.Core.Bool.{Bool, true, false, _&&_, _||_, true≢false, false≢true}
+use mathlib.Core.Bool.{true, false, _||_, true≢false, false≢true}
 use mathlib.Core.Logic.{_⊎_, inl, inr, ⊎-elim}
 use mathlib.Core.List.{List, [], _∷_, List·Memᴰ·cases-cons, List·Memᴰ·eq-of-singleton}
 use native.Mathlib.Omega.{arith}
@@ -15,7 +15,7 @@ use Rattle.dirf.specs.Keys.{keyFields, hasKey}
 use Rattle.dirf.specs.Theorems.Plain.{_∈_}
 use Rattle.dirf.specs.Theorems.Sound.{level}
 use Rattle.dirf.specs.Theorems.Whose.{BeneficiaryOrValue, Sort, a-block, an-IDREC, a-beneficiary, a-value-record}
-use Rattle.dirf.proofs.Bools.{if-cases, and-left, and-right, or-cases, unless-true}
+use Rattle.dirf.proofs.Bools.{if-cases, or-cases}
 use Rattle.dirf.proofs.Says.{isIn-says}
 use Rattle.dirf.proofs.Lists.{every-in}
 
@@ -74,9 +74,12 @@ sort-below k =
     (λ b _. a-block (isIn-says k blocks .0 b))
     (λ l. absurd (omega arith))
 
+deeper-in : {k : ℕ} {ks : List ℕ} → k ∈ ks → every (λ k. ltb 0 (level k)) ks ≡ true → 0 < level k
+deeper-in {k} m all = ltb-true 0 (level k) (every-in (λ k. ltb 0 (level k)) m all)
+
 pub block-level : {k : ℕ} → k ∈ blocks → 0 < level k
 unfolding bytes-opens kinds-opens level
-block-level {k} m = ltb-true 0 (level k) (every-in (λ k. ltb 0 (level k)) m refl)
+block-level m = deeper-in m refl
 
 pub alone-level : {k : ℕ} → k ∈ alone → level k ≡ 0
 unfolding bytes-opens kinds-opens level
@@ -95,26 +98,15 @@ below-beneficiary k l = ⊎-elim (λ b. absurd (omega (arith, beneficiary-level 
 pub is-beneficiary : (k : ℕ) → level k ≡ 3 → k ∈ beneficiaries
 is-beneficiary k l = ⊎-elim (λ b. b) (λ v. absurd (omega (arith, value-level v))) (below-holder k (omega arith))
 
--- what has a key stands below the declarant, and opens
-between : ℕ → Bool
-between k = ltb 0 (level k) && ltb (level k) 4
-
-key-level : (k : ℕ) → hasKey k ≡ true → between k ≡ true
-unfolding hasKey keyFields isBeneficiary bytes-opens kinds-opens level between
-key-level k =
-    if-cases (λ (fs : List ℕ). ltb 0 (length fs) ≡ true → between k ≡ true) (isIn k (PROC ∷ RRA ∷ []))
-    (λ h _. every-in between (isIn-says k (PROC ∷ RRA ∷ []) .0 h) refl)
+-- what has a key stands below the declarant
+pub key-below : (k : ℕ) → hasKey k ≡ true → 0 < level k
+unfolding hasKey keyFields isBeneficiary bytes-opens kinds-opens level
+key-below k =
+    if-cases (λ (fs : List ℕ). ltb 0 (length fs) ≡ true → 0 < level k) (isIn k (PROC ∷ RRA ∷ []))
+    (λ h _. deeper-in (isIn-says k (PROC ∷ RRA ∷ []) .0 h) refl)
     (λ _.
-    if-cases (λ (fs : List ℕ). ltb 0 (length fs) ≡ true → between k ≡ true) (isIn k (IDREC ∷ FCI ∷ SCP ∷ []) || isBeneficiary k)
-    (λ h _. ⊎-elim (λ i. every-in between (isIn-says k (IDREC ∷ FCI ∷ SCP ∷ []) .0 i) refl) (λ b. every-in between (isIn-says k beneficiaries .0 b) refl)
+    if-cases (λ (fs : List ℕ). ltb 0 (length fs) ≡ true → 0 < level k) (isIn k (IDREC ∷ FCI ∷ SCP ∷ []) || isBeneficiary k)
+    (λ h _.
+    ⊎-elim (λ i. deeper-in (isIn-says k (IDREC ∷ FCI ∷ SCP ∷ []) .0 i) refl) (λ b. deeper-in (isIn-says k beneficiaries .0 b) refl)
     (or-cases (isIn k (IDREC ∷ FCI ∷ SCP ∷ [])) (isBeneficiary k) h))
     (λ _ e. absurd (false≢true e)))
-
-pub key-below : (k : ℕ) → hasKey k ≡ true → 0 < level k
-unfolding between
-key-below k h = ltb-true 0 (level k) (and-left (ltb 0 (level k)) _ (key-level k h))
-
-pub key-opens : (k : ℕ) → hasKey k ≡ true → isValue k ≡ false
-unfolding between isValue
-key-opens k h =
-    unless-true (isValue k) (λ v. omega (arith, value-level (isIn-says k values .0 v), ltb-true (level k) 4 (and-right (ltb 0 (level k)) _ (key-level k h))))

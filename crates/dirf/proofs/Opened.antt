@@ -1,6 +1,6 @@
 -- The open records of every history, and the place of every record among them.
 use Prim.Native.Nat.{ℕ, suc, _≤_, _<_}
-use mathlib.Core.Path.{_≡_, refl, sym, ap, _∙_, subst}
+use mathlib.Core.Path.{_≡_, refl, sym, ap, _∙_}
 use mathlib.Core.Bool.{true, true≢false}
 use mathlib.Core.List.{List, [], _∷_}
 use mathlib.Core.Option.{none}
@@ -72,7 +72,7 @@ module _ (e : Edition) (sound : Sound e) where
       record {
         records = shallower (omega arith) (wider (omega arith) (open-next r before (omega arith) (omega arith) (q .known)));
         none-below = each-next r before (λ k. ⊥) _ (λ _ _ v. true≢false (sym value ∙ v))
-            (subst (λ os. EachBelow before (numberOfFirst os) (λ k. ⊥)) (sym (value-first (now .records) k value stands)) (now .none-below));
+            (rw (value-first (now .records) k value stands) (now .none-below));
         parents = λ m s. omega (arith, parents m s);
       })
       (λ opens.
