@@ -20,3 +20,7 @@ or-cases false b e = inr e
 pub if-cases : {A : Type 0} (P : A → Type 0) (t : Bool) {a b : A} → (t ≡ true → P a) → (t ≡ false → P b) → P (if t then a else b)
 if-cases P true f g = f refl
 if-cases P false f g = g refl
+
+pub unless-true : (b : Bool) → (b ≡ true → ⊥) → b ≡ false
+unless-true true h = absurd (h refl)
+unless-true false h = refl
