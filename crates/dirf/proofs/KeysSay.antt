@@ -3,9 +3,8 @@ use Prim.Native.Nat.{ℕ, suc}
 use mathlib.Core.Path.{_≡_, refl, sym, ap, _∙_, subst}
 use mathlib.Core.Bool.{Bool, true, false, _&&_, not, true≢false}
 use mathlib.Core.Logic.{_≢_, _⊎_, inl, inr, ⊎-elim}
-use mathlib.Core.List.{List, [], _∷_, _++_, List·Memᴰ·cases-cons, List·Memᴰ·not-nil, cons≢nil}
-use mathlib.Core.List.{head-eq-of-cons-eq, tail-eq-of-cons-eq, Memᴰ·append-right}
-use mathlib.Core.Option.{Option, none, some}
+use mathlib.Core.List.{List, [], _∷_, _++_, List·Memᴰ·cases-cons, List·Memᴰ·not-nil, cons≢nil, Memᴰ·append-right}
+use mathlib.Core.Option.{Option, none, some, Option·some-injective}
 use native.Mathlib.Omega.{arith}
 use lib.Dec.{eqb, ltb}
 use lib.ListN.{length}
@@ -15,6 +14,7 @@ use Rattle.dirf.specs.Lines.{fields}
 use Rattle.dirf.specs.Tree.{Rec}
 use Rattle.dirf.specs.Keys.{keyFields, hasKey, keyOf, keyLess, lastUnder, isSome, notAfter}
 use Rattle.dirf.specs.Theorems.Plain.{_∈_, Smaller, SmallerKey, shorter, at-field, same-field}
+use Rattle.dirf.proofs.Bools.{if-cases}
 use Rattle.dirf.proofs.Says.{Says, says-and, says-or, says-not, says-by, denies, eqb-says, same-says, less-says, it, on}
 
 -- under this parent and of this kind
@@ -75,14 +75,14 @@ repeated-says before p k = go (lastUnder before p k) (look before p k)
     go (some r) l =
         (λ e. (r, subst (λ (rs : List Rec). r ∈ rs) (sym (l .split)) (Memᴰ·append-right (l .since) it), l .under), λ h. refl)
 
--- there is only one last one
-same-last : (since since′ : List Rec) (r r′ : Rec) (earlier earlier′ : List Rec) (p k : ℕ) → since ++ (r ∷ earlier) ≡ since′ ++ (r′ ∷ earlier′)
-    → Under p k r → Under p k r′ → ((x : Rec) → x ∈ since → Under p k x → ⊥) → ((x : Rec) → x ∈ since′ → Under p k x → ⊥) → r ≡ r′
-same-last [] [] r r′ es es′ p k e u u′ n n′ = head-eq-of-cons-eq e
-same-last [] (x ∷ s′) r r′ es es′ p k e u u′ n n′ = absurd (n′ x it (subst (Under p k) (head-eq-of-cons-eq e) u))
-same-last (x ∷ s) [] r r′ es es′ p k e u u′ n n′ = absurd (n x it (subst (Under p k) (sym (head-eq-of-cons-eq e)) u′))
-same-last (x ∷ s) (x′ ∷ s′) r r′ es es′ p k e u u′ n n′ =
-    same-last s s′ r r′ es es′ p k (tail-eq-of-cons-eq e) u u′ (λ y m. n y (on m)) (λ y m. n′ y (on m))
+-- the last one is what is found
+last-found : (since earlier : List Rec) (r : Rec) (p k : ℕ) → Under p k r → ((x : Rec) → x ∈ since → Under p k x → ⊥)
+    → lastUnder (since ++ (r ∷ earlier)) p k ≡ some r
+unfolding lastUnder
+last-found [] earlier r p k u none-since = rw (under-says p k r .1 u)
+last-found (x ∷ since) earlier r p k u none-since =
+    if-cases (λ o. o ≡ some r) (eqb (x .parent) p && eqb (x .kind) k) (λ q. absurd (none-since x it (under-says p k x .0 q)))
+    (λ _. last-found since earlier r p k u (λ y m. none-since y (on m)))
 
 pub key-less-says : (a b : List Text) → Says (keyLess a b) (SmallerKey a b)
 unfolding keyLess
@@ -91,7 +91,8 @@ key-less-says [] (b ∷ bs) = (λ e. shorter, λ h. refl)
 key-less-says (a ∷ xs) [] = (λ e. absurd (true≢false (sym e)), λ h. elim h [ ])
 key-less-says (a ∷ xs) (b ∷ bs) =
     says-by (⊎-elim at-field (λ h. same-field (h .0) (h .1))) split
-    (says-or (less a b) (same a b && keyLess xs bs) (less-says a b) (says-and (same a b) (keyLess xs bs) (same-says a b) (key-less-says xs bs)))
+    (says-or (less a b) (same a b && keyLess xs bs) (less-says a b)
+    (says-and (same a b) (keyLess xs bs) (same-says a b) (key-less-says xs bs)))
   where
     split : SmallerKey (a ∷ xs) (b ∷ bs) → Smaller a b ⊎ ((a ≡ b) × SmallerKey xs bs)
     split (at-field h) = inl h
@@ -101,8 +102,8 @@ key-less-says (a ∷ xs) (b ∷ bs) =
 pub not-after-says : (k : ℕ) (cells : List Text) (before : List Rec) (p : ℕ)
     → Says (notAfter k cells (lastUnder before p k))
     ((r : Rec) × LastOne before p k r × (SmallerKey (keyOf k (fields (r .line))) (keyOf k cells) → ⊥))
-unfolding notAfter
-not-after-says k cells before p = go (lastUnder before p k) (look before p k)
+unfolding notAfter isSome
+not-after-says k cells before p = go (lastUnder before p k) refl (look before p k)
   where
     before-key : Rec → List Text
     before-key r = keyOf k (fields (r .line))
@@ -113,16 +114,14 @@ not-after-says k cells before p = go (lastUnder before p k) (look before p k)
     Answer : Type 0
     Answer = (r : Rec) × LastOne before p k r × (SmallerKey (before-key r) (keyOf k cells) → ⊥)
 
-    present : (x : Rec) → LastOne before p k x → x ∈ before
-    present x l = subst (λ (rs : List Rec). x ∈ rs) (sym (l .split)) (Memᴰ·append-right (l .since) it)
+    found : (x : Rec) → LastOne before p k x → lastUnder before p k ≡ some x
+    found x l = rw (l .split) (last-found (l .since) (l .earlier) x p k (l .under) (l .none-since))
 
-    go : (o : Option Rec) → Look before p k o → Says (notAfter k cells o) Answer
-    go none l = (λ e. absurd (true≢false (sym e)), λ h. absurd (l (h .0) (present (h .0) (h .1)) (h .1 .under)))
-    go (some r) l =
+    go : (o : Option Rec) → lastUnder before p k ≡ o → Look before p k o → Says (notAfter k cells o) Answer
+    go none q l = (λ e. absurd (true≢false (sym e)), λ h. absurd (true≢false (ap isSome (sym (found (h .0) (h .1)) ∙ q))))
+    go (some r) q l =
         says-by (λ n. (r, l, n))
-        (λ h. subst (λ (x : Rec). SmallerKey (before-key x) (keyOf k cells) → ⊥)
-        (same-last (h .1 .since) (l .since) (h .0) r (h .1 .earlier) (l .earlier) p k (sym (h .1 .split) ∙ l .split) (h .1 .under) (l .under) (h .1 .none-since) (l .none-since))
-        (h .2))
+        (λ h. let same : h .0 ≡ r = Option·some-injective (h .0) r (sym (found (h .0) (h .1)) ∙ q) in rw (← same) (h .2))
         (smaller r)
 
 pub has-key-says : (k : ℕ) → Says (hasKey k) (keyFields k ≢ [])
