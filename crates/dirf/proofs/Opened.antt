@@ -62,10 +62,11 @@ module _ (e : Edition) (sound : Sound e) where
       let k = r .kind in
       let q = placed-in e (declarant before) k sound none (now .none-below) (now .records) in
       let f = first-number (q .known) in
+      let outer : from (r .parent) (opened before) ≡ place e before k .up = ap (λ n. from n (opened before)) parent ∙ q .found in
       let parents = parents-next r before (omega arith) (now .parents) in
       let least = last-least before (place e before k .last) (place e before k .up) k
       (λ z. has-parent e before k (deep (q .known) z) stands .2) (q .last) in
-      rw (ap (λ n. from n (opened before)) parent ∙ q .found)
+      rw outer
       (if-cases (OpenNow (r ∷ before)) (opensNothing k)
       (λ value.
       let lowest : level k ≡ 4 = value-level (isIn-says k values .0 value) in
