@@ -22,8 +22,8 @@ use Rattle.dirf.specs.Theorems.Answered.{recs, Right, LinesRight, Closed
 use Rattle.dirf.specs.Theorems.Answered.{Answered, Only, AcceptedExactly}
 use Rattle.dirf.proofs.Says.{denies}
 use Rattle.dirf.proofs.Lists.{every-in}
-use Rattle.dirf.proofs.Asked.{numbersPass}
-use Rattle.dirf.proofs.Given.{given-number, none-given}
+use Rattle.dirf.proofs.Asked.{numbersPass, given-number}
+use Rattle.dirf.proofs.Given.{none-given}
 use Rattle.dirf.proofs.RuleLaws.{broken-given}
 use Rattle.dirf.proofs.TestsSay.{tests-say, closed-says}
 use Rattle.dirf.proofs.RunLaws.{Kept, Fate, passes, stops, fate, kept-verdict, stops-verdict, kept-at, at-kept}

@@ -34,8 +34,8 @@ use Rattle.dirf.specs.Theorems.ThereAndBack.{together, ReaderWritesBack}
 use Rattle.dirf.proofs.Says.{isIn-says}
 use Rattle.dirf.proofs.Lists.{listed, Each, none, _also_, of-each}
 use Rattle.dirf.proofs.Asked.{given-false, given-keeps, or-else-left, one-kept, all-kept, first-tries}
-use Rattle.dirf.proofs.Asked.{rule-kept, field-kept, numbersPass, first-passes, nothing-found}
-use Rattle.dirf.proofs.Given.{given-number, keeps-gives-none, none-given-keeps}
+use Rattle.dirf.proofs.Asked.{rule-kept, field-kept, numbersPass, given-number, first-passes, nothing-found}
+use Rattle.dirf.proofs.Given.{keeps-gives-none, none-given-keeps}
 use Rattle.dirf.proofs.Base.{named-base, base-not-later, base-not-zero, base-named, base-identifier-first}
 use Rattle.dirf.proofs.KeptFields.{own-name, fields-fit}
 use Rattle.dirf.proofs.CleanLaws.{clean-whole, nothing-unclean}
