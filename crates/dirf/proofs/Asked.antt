@@ -11,8 +11,8 @@ use Rattle.dirf.specs.Bytes.{Text, every}
 use Rattle.dirf.specs.Row.{Row}
 use Rattle.dirf.specs.Fields.{FieldTest, FieldRule}
 use Rattle.dirf.specs.Conditions.{Condition}
-use Rattle.dirf.specs.Rules.{Found, keeps, breaks, given, orElse, Rule, gives, fieldByField, conditions}
-use Rattle.dirf.specs.Rules.{askField, askFields, askConditions, ask, first}
+use Rattle.dirf.specs.Rules.{Found, keeps, breaks, given, orElse, Rule, gives, fieldByField, conditions, askField, askFields}
+use Rattle.dirf.specs.Rules.{askConditions, ask, first}
 use Rattle.dirf.specs.Theorems.Plain.{_∈_, Nth, this, next}
 use Rattle.dirf.specs.Theorems.Answered.{Given, by-test, by-field, by-condition}
 use Rattle.dirf.proofs.Bools.{and-left, and-right}

@@ -3,8 +3,8 @@ use Prim.Native.Nat.{ℕ}
 use mathlib.Core.Path.{_≡_, refl, sym, ap, _∙_, subst}
 use mathlib.Core.Bool.{Bool, true, false, not, true≢false}
 use mathlib.Core.Logic.{_↔_, _≢_, _⊎_, inl, inr, ⊎-elim}
-use mathlib.Core.List.{[], _∷_, _++_, append-nil, List·Memᴰ·cases-cons, List·Memᴰ·not-nil, cons≢nil, Memᴰ·append-right}
-use mathlib.Core.List.{head-eq-of-cons-eq, tail-eq-of-cons-eq, nil≢cons}
+use mathlib.Core.List.{[], _∷_, _++_, append-nil, List·Memᴰ·cases-cons, List·Memᴰ·not-nil, cons≢nil, Memᴰ·append-right, head-eq-of-cons-eq}
+use mathlib.Core.List.{tail-eq-of-cons-eq, nil≢cons}
 use Rattle.dirf.specs.Bytes.{if_then_else_, Text, isEmpty}
 use Rattle.dirf.specs.Limits.{CR, LF}
 use Rattle.dirf.specs.Lines.{isLineEnd, clean, unclean}

@@ -21,12 +21,11 @@ use Rattle.dirf.specs.Theorems.Plain.{NoLineEnd, wholeLine}
 use Rattle.dirf.specs.Theorems.Breach.{stray}
 use Rattle.dirf.specs.Theorems.Sound.{Closable, Sound}
 use Rattle.dirf.specs.Theorems.Answered.{recs, Closed, Accepted, FirstBroken}
-use Rattle.dirf.specs.Theorems.GoodSoFar.{Whole, empty, ends-in-CR-LF, lineEnds, Unfinished, CanBecomeAccepted}
-use Rattle.dirf.specs.Theorems.GoodSoFar.{GoodSoFar, GoodUpToHere}
+use Rattle.dirf.specs.Theorems.GoodSoFar.{Whole, empty, ends-in-CR-LF, lineEnds, Unfinished, CanBecomeAccepted, GoodSoFar}
+use Rattle.dirf.specs.Theorems.GoodSoFar.{GoodUpToHere}
 use Rattle.dirf.proofs.Says.{denies}
 use Rattle.dirf.proofs.TestsSay.{closed-says}
-use Rattle.dirf.proofs.RunLaws.{Kept, Fate, passes, stops, fate, kept-verdict, stops-verdict, kept-append}
-use Rattle.dirf.proofs.RunLaws.{recs-append, length-recs}
+use Rattle.dirf.proofs.RunLaws.{Kept, Fate, passes, stops, fate, kept-verdict, stops-verdict, kept-append, recs-append, length-recs}
 use Rattle.dirf.proofs.WholeLaws.{pieces-append, line-count, whole-ended, line-piece}
 use Rattle.dirf.proofs.Answered.{shut-ends, open-ends, right-exactly, lines-right, broken-number, accepted-exactly}
 

@@ -9,8 +9,8 @@ use lib.ListN.{length}
 use borrow.Author.Tests.{eqb-true, leb-true, not-false}
 use Rattle.dirf.specs.Bytes.{Text, some, isIn, isEmpty}
 use Rattle.dirf.specs.Row.{Row, Format, C, N, D, Fill, fixed, variable, obligatory, identifier}
-use Rattle.dirf.specs.Fields.{isObligatory, rightByte, fillsTo, sizeHeld, valid, filled, obligatoryFieldEmpty}
-use Rattle.dirf.specs.Fields.{byteOfTheWrongKind, wrongSize, notAValidValue, fieldOrder}
+use Rattle.dirf.specs.Fields.{isObligatory, rightByte, fillsTo, sizeHeld, valid, filled, obligatoryFieldEmpty, byteOfTheWrongKind}
+use Rattle.dirf.specs.Fields.{wrongSize, notAValidValue, fieldOrder}
 use Rattle.dirf.specs.Rules.{keeps, askField, askFields}
 use Rattle.dirf.specs.FieldReader.{widthOf}
 use Rattle.dirf.specs.LineWriter.{sum}

@@ -12,10 +12,9 @@ use borrow.Author.Tests.{lt-ltb, le-ltb}
 use Rattle.dirf.specs.Bytes.{if_then_else_, isIn, lookup}
 use Rattle.dirf.specs.Kinds.{Dirf, RESPO, DECPF, DECPJ, IDREC, FIMDirf}
 use Rattle.dirf.specs.Edition.{Edition}
-use Rattle.dirf.specs.Tree.{Rec, Open, opened, opening, declarant, blockOf, mayHold, kindOfFirst}
-use Rattle.dirf.specs.Tree.{Place, placeIn, place, inOrder, isPlaced, mayStand}
-use Rattle.dirf.specs.Theorems.Breach.{Holds, Innermost, here, further, NotBefore}
-use Rattle.dirf.specs.Theorems.Breach.{Below, StandsAfter, Stands}
+use Rattle.dirf.specs.Tree.{Rec, Open, opened, opening, declarant, blockOf, mayHold, kindOfFirst, Place, placeIn, place, inOrder}
+use Rattle.dirf.specs.Tree.{isPlaced, mayStand}
+use Rattle.dirf.specs.Theorems.Breach.{Holds, Innermost, here, further, NotBefore, Below, StandsAfter, Stands}
 use Rattle.dirf.proofs.Says.{Says, says-and, says-or, says-by, denies, eqb-says, leb-says, isIn-says, on}
 
 -- a test asked only where another holds

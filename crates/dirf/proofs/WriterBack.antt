@@ -16,25 +16,23 @@ use Rattle.dirf.specs.Edition.{Edition, nameOf, rowsOf, isBase}
 use Rattle.dirf.specs.Lines.{Piece, pieces, clean, fields, field}
 use Rattle.dirf.specs.Fields.{obligatoryFieldEmpty, notAValidValue, fieldOrder}
 use Rattle.dirf.specs.Conditions.{conditionOrder}
-use Rattle.dirf.specs.Rules.{keeps, Contents, Rule, gives, fieldByField, conditions}
-use Rattle.dirf.specs.Rules.{askField, askFields, askConditions, ask, first}
+use Rattle.dirf.specs.Rules.{keeps, Contents, Rule, gives, fieldByField, conditions, askField, askFields, askConditions, ask, first}
 use Rattle.dirf.specs.Tree.{Rec}
 use Rattle.dirf.specs.Order.{Here, contentsOf, kindOfLine, here, lineTooLong, inputEnds, strayLineEnd, noBarAtTheEnd}
 use Rattle.dirf.specs.Order.{identifierUnknown, leftForLater, wrongNumberOfFields, order}
 use Rattle.dirf.specs.FieldReader.{widthOf}
 use Rattle.dirf.specs.Written.{writes}
 use Rattle.dirf.specs.Tables.{longest}
-use Rattle.dirf.specs.LineWriter.{cut, sum, joined, lineOf, Writing, writing, noBaseKind, lengthsDoNotAddUp}
-use Rattle.dirf.specs.LineWriter.{outputTooSmall, writerOrder, writeLine}
+use Rattle.dirf.specs.LineWriter.{cut, sum, joined, lineOf, Writing, writing, noBaseKind, lengthsDoNotAddUp, outputTooSmall}
+use Rattle.dirf.specs.LineWriter.{writerOrder, writeLine}
 use Rattle.dirf.specs.Theorems.Plain.{_∈_, NoLineEnd, wholeLine}
 use Rattle.dirf.specs.Theorems.Sound.{firstOf, Sound}
 use Rattle.dirf.specs.Theorems.Answered.{TestsSay}
-use Rattle.dirf.specs.Theorems.ThereAndBack.{ofTheLine, Sound-line, ReadsBack, WriterReadsBack}
-use Rattle.dirf.specs.Theorems.ThereAndBack.{together, ReaderWritesBack}
+use Rattle.dirf.specs.Theorems.ThereAndBack.{ofTheLine, Sound-line, ReadsBack, WriterReadsBack, together, ReaderWritesBack}
 use Rattle.dirf.proofs.Says.{isIn-says}
 use Rattle.dirf.proofs.Lists.{listed, Each, none, _also_, of-each}
-use Rattle.dirf.proofs.Asked.{given-false, given-keeps, or-else-left, one-kept, all-kept, first-tries}
-use Rattle.dirf.proofs.Asked.{rule-kept, field-kept, numbersPass, given-number, first-passes, nothing-found}
+use Rattle.dirf.proofs.Asked.{given-false, given-keeps, or-else-left, one-kept, all-kept, first-tries, rule-kept, field-kept}
+use Rattle.dirf.proofs.Asked.{numbersPass, given-number, first-passes, nothing-found}
 use Rattle.dirf.proofs.Given.{keeps-gives-none, none-given-keeps}
 use Rattle.dirf.proofs.Base.{named-base, base-not-later, base-not-zero, base-named, base-identifier-first}
 use Rattle.dirf.proofs.KeptFields.{own-name, fields-fit}
