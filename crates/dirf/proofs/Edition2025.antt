@@ -1,5 +1,5 @@
 -- The edition of 2025 is sound: computed tests over its tables, and four lines that close a file.
-use Prim.Native.Nat.{ℕ, suc, _≤_, _<_}
+use Prim.Native.Nat.{ℕ, suc}
 use mathlib.Core.Path.{_≡_, refl, sym, ap, _∙_}
 use mathlib.Core.Bool.{Bool, true, false, _||_, not, true≢false}
 use mathlib.Core.Logic.{⊎-elim}
@@ -9,24 +9,23 @@ use lib.Dec.{eqb, ltb}
 use lib.ListN.{length}
 use borrow.Author.Tests.{eqb-true, eq-eqb, ltb-true, le-ltb}
 use Rattle.dirf.specs.Bytes.{bytes, every, isIn, lookup, bytes-opens}
-use Rattle.dirf.specs.Kinds.{Dirf, RESPO, DECPF, IDREC, SCP, FIMDirf, declarants, blocks, withIDREC, belowSCP, isBlock, isBeneficiary}
-use Rattle.dirf.specs.Kinds.{kinds-opens}
-use Rattle.dirf.specs.Below.{Children, underDECPF, underDECPJ, below2025}
+use Rattle.dirf.specs.Kinds.{DECPF, IDREC, SCP, declarants, blocks, withIDREC, belowSCP, isBlock, isBeneficiary, kinds-opens}
+use Rattle.dirf.specs.Below.{underDECPF, underDECPJ, below2025}
 use Rattle.dirf.specs.Edition.{edition2025, edition-opens}
 use Rattle.dirf.specs.Lines.{lines-opens}
 use Rattle.dirf.specs.Numbers.{numbers-opens}
 use Rattle.dirf.specs.Fields.{fields-opens}
 use Rattle.dirf.specs.Conditions.{conditions-opens}
 use Rattle.dirf.specs.Rules.{rules-opens}
-use Rattle.dirf.specs.Tree.{Rec, opening, mayStand}
+use Rattle.dirf.specs.Tree.{opening, mayStand}
 use Rattle.dirf.specs.Keys.{keys-opens}
 use Rattle.dirf.specs.Order.{line-opens}
 use Rattle.dirf.specs.Theorems.Plain.{_∈_}
 use Rattle.dirf.specs.Theorems.Sound.{level, Nested, rising, Closable, Sound}
-use Rattle.dirf.proofs.Bools.{and-left, and-right, or-cases, if-cases}
+use Rattle.dirf.proofs.Bools.{or-cases, if-cases}
 use Rattle.dirf.proofs.Says.{says-or, isIn-says}
 use Rattle.dirf.proofs.Lists.{listed, every-in}
-use Rattle.dirf.proofs.Tables.{rows-right, kinds-right}
+use Rattle.dirf.proofs.Tables.{in-table, rows-right, kinds-right}
 
 -- what is asked of a record of kind k below one of kind h: where the first of a pair holds, the second does
 asks : ℕ → ℕ → List (Bool × Bool)
@@ -61,24 +60,14 @@ nested-of h k e =
       of-declarant = λ m. isIn-says h declarants .0 (asked h k (isIn k blocks) _ (search listed depth 20) e (isIn-says k blocks .1 m));
     }
 
--- what holds of every row of a table, and of no row, holds of what is looked up
-in-table : (test : ℕ → List ℕ → Bool) → ((h : ℕ) → test h [] ≡ true) → (t : Children) → every (λ r. test (r .0) (r .1)) t ≡ true
-    → (h : ℕ) → test h (lookup [] t h) ≡ true
-unfolding lookup bytes-opens
-in-table test none [] e h = none h
-in-table test none (r ∷ t) e h =
-    if-cases (λ ks. test h ks ≡ true) (eqb h (r .0))
-    (λ q. ap (λ x. test x (r .1)) (eqb-true h (r .0) q) ∙ and-left (test (r .0) (r .1)) _ e)
-    (λ _. in-table test none t (and-right (test (r .0) (r .1)) _ e) h)
-
 -- of either declarant's table
 below-says : (test : ℕ → List ℕ → Bool) → ((h : ℕ) → test h [] ≡ true)
     → every (λ r. test (r .0) (r .1)) underDECPF ≡ true → every (λ r. test (r .0) (r .1)) underDECPJ ≡ true
     → (d h : ℕ) → test h (lookup [] (below2025 d) h) ≡ true
 unfolding below2025
 below-says test none pf pj d h =
-    if-cases (λ t. test h (lookup [] t h) ≡ true) (eqb d DECPF) (λ _. in-table test none underDECPF pf h)
-    (λ _. in-table test none underDECPJ pj h)
+    if-cases (λ t. test h (lookup [] t h) ≡ true) (eqb d DECPF) (λ _. in-table test [] none underDECPF pf h)
+    (λ _. in-table test [] none underDECPJ pj h)
 
 nested2025 : (d h k : ℕ) → isIn k (lookup [] (below2025 d) h) ≡ true → Nested h k
 unfolding bytes-opens kinds-opens asks nests level
@@ -94,40 +83,20 @@ ordered2025 d h other =
     (or-cases (rising (lookup [] (below2025 d) h)) (isBeneficiary h)
     (below-says (λ h ks. rising ks || isBeneficiary h) (λ h. refl) refl refl d h))
 
--- where each of the four lines that close a file may stand
-stands0 : (before : List Rec) → length before ≡ 0 → mayStand edition2025 before Dirf ≡ true
-unfolding mayStand opening bytes-opens
-stands0 before e = rw e
-
-stands1 : (before : List Rec) → length before ≡ 1 → mayStand edition2025 before RESPO ≡ true
-unfolding mayStand opening bytes-opens
-stands1 before e = rw e
-
-stands2 : (before : List Rec) → length before ≡ 2 → mayStand edition2025 before DECPF ≡ true
-unfolding mayStand opening bytes-opens
-stands2 before e = rw e
-
-stands3 : (before : List Rec) → 3 ≤ length before → mayStand edition2025 before FIMDirf ≡ true
-unfolding mayStand opening bytes-opens
-stands3 before h = rw (le-ltb (length before) 3 h)
-
--- a line that is neither too late nor past the room
-fits : (before : List Rec) (room : ℕ) → length before < 65536 → length before < room
-    → (ltb 65536 (suc (length before)) ≡ false) × (ltb room (suc (length before)) ≡ false)
-fits before room m r = (le-ltb 65536 (suc (length before)) (omega arith), le-ltb room (suc (length before)) (omega arith))
-
 closable2025 : Closable edition2025
 unfolding bytes-opens kinds-opens edition-opens lines-opens numbers-opens fields-opens conditions-opens rules-opens keys-opens line-opens
+    mayStand opening
 closable2025 =
     record {
       line1 = bytes "Dirf|2025|2024|N||R6GP3ZA|";
       line2 = bytes "RESPO|00000000000|A|11|33334444||||";
       line3 = bytes "DECPF|00000000000|A|N|N|N|N|N|||N|||||";
       last = bytes "FIMDirf|";
-      after0 = λ before e room c m r. let t = fits before room m r in simp (c, t .0, t .1, stands0 before e);
-      after1 = λ before e room c m r. let t = fits before room m r in simp (c, t .0, t .1, stands1 before e);
-      after2 = λ before e room c m r. let t = fits before room m r in simp (c, t .0, t .1, stands2 before e);
-      after3 = λ before h room c m r. let t = fits before room m r in simp (c, t .0, t .1, stands3 before h);
+      after0 = λ before e room c m r. simp (c, e, le-ltb room 1 (omega arith));
+      after1 = λ before e room c m r. simp (c, e, le-ltb room 2 (omega arith));
+      after2 = λ before e room c m r. simp (c, e, le-ltb room 3 (omega arith));
+      after3 = λ before h room c m r. let n = suc (length before) in
+          simp (c, le-ltb 65536 n (omega arith), le-ltb room n (omega arith), le-ltb (length before) 3 h);
       open1 = λ e. omega arith;
       open2 = λ e. omega arith;
       open3 = λ e. omega arith;
