@@ -22,10 +22,10 @@ use Rattle.dirf.proofs.Lists.{every-in}
 pub keeps≢breaks : {n f : ℕ} → keeps ≡ breaks n f → ⊥
 keeps≢breaks e = let z : _≡_ {A = ℕ} 0 1 = cc in omega arith
 
--- what is found is nothing, where it is no breach
-pub kept-unless : (x : Found) → ((n f : ℕ) → x ≡ breaks n f → ⊥) → x ≡ keeps
-kept-unless keeps h = refl
-kept-unless (breaks n f) h = absurd (h n f refl)
+-- what is found is nothing, or a breach
+pub found-cases : (x : Found) → (x ≡ keeps) ⊎ ((n : ℕ) × (f : ℕ) × (x ≡ breaks n f))
+found-cases keeps = inl refl
+found-cases (breaks n f) = inr (n, f, refl)
 
 pub given-false : (n f : ℕ) (b : Bool) → given n f b ≡ keeps → b ≡ false
 unfolding given
@@ -116,7 +116,8 @@ module _ (f : ℕ) (name : Text) (r : Row) (s : Text) where
 -- all fields of a record, from field f on: the row and the text, i places on, that break a rule
 fields-break : {P : Type 0} {n g : ℕ} (xs : List FieldRule) (name : Text) (f : ℕ) (rs : List Row) (cs : List Text)
     → askFields f xs name rs cs ≡ breaks n g
-    → ((i : ℕ) (r : Row) (s : Text) (x : FieldRule) → suc g ≡ f + i → Nth rs i r → Nth cs i s → x ∈ xs → x .0 ≡ n → x .1 name r s ≡ true → P)
+    → ((i : ℕ) (r : Row) (s : Text) (x : FieldRule) → suc g ≡ f + i → Nth rs i r → Nth cs i s
+    → x ∈ xs → x .0 ≡ n → x .1 name r s ≡ true → P)
     → P
 unfolding askFields
 fields-break xs name f [] cs e k = absurd (keeps≢breaks e)

@@ -2,6 +2,7 @@
 use Prim.Native.Nat.{ℕ, zero, suc, _+_, _≤_, _<_}
 use mathlib.Core.Path.{_≡_, refl, sym, ap, _∙_, subst}
 use mathlib.Core.Bool.{Bool, true, false, _&&_}
+use mathlib.Core.Logic.{⊎-elim}
 use mathlib.Core.List.{List, [], _∷_, _++_, append-assoc, append-nil}
 use native.Mathlib.Omega.{arith}
 use native.Mathlib.Nat.{zero-add}
@@ -9,7 +10,7 @@ use lib.Dec.{eqb}
 use lib.ListN.{length, length-append, getD, take, drop}
 use lib.Seq.{split-at, take-at, drop-at, length-take-le}
 use borrow.Author.Tests.{eqb-true}
-use Rattle.dirf.specs.Bytes.{if_then_else_, Text}
+use Rattle.dirf.specs.Bytes.{Text}
 use Rattle.dirf.specs.Limits.{CR, LF, lineEnd}
 use Rattle.dirf.specs.Edition.{Edition}
 use Rattle.dirf.specs.Lines.{Piece, push, pieces}
@@ -20,7 +21,7 @@ use Rattle.dirf.specs.Theorems.Sound.{Sound}
 use Rattle.dirf.specs.Theorems.Answered.{recs, LinesRight, Answer, accepts, unclosed, refuses}
 use Rattle.dirf.specs.Theorems.Whose.{entryAt, IsLine}
 use Rattle.dirf.specs.Theorems.Entries.{startAt, lengthAt, bytesAt, Pointed, Entries}
-use Rattle.dirf.proofs.Bools.{and-left, and-right}
+use Rattle.dirf.proofs.Bools.{and-left, and-right, true-or-false}
 use Rattle.dirf.proofs.History.{table-length, entry-last, entry-earlier, line-cases}
 use Rattle.dirf.proofs.RunLaws.{recs-append, length-recs}
 use Rattle.dirf.proofs.WholeLaws.{AllEnded}
@@ -45,15 +46,14 @@ text-pieces : (s : Text) → textOf (pieces s) ≡ s
 unfolding pieces push textOf endOf
 text-pieces [] = refl
 text-pieces (b ∷ []) = refl
-text-pieces (b ∷ c ∷ s) = go (eqb b CR && eqb c LF) refl (text-pieces s) (text-pieces (c ∷ s))
-  where
-    go : (t : Bool) → (eqb b CR && eqb c LF) ≡ t → textOf (pieces s) ≡ s → textOf (pieces (c ∷ s)) ≡ c ∷ s
-        → textOf (if t then record { body = []; ended = true } ∷ pieces s else push b (pieces (c ∷ s))) ≡ b ∷ c ∷ s
-    go true q f g =
-        ap (λ l. CR ∷ LF ∷ l) f
-        ∙ ap (λ x. x ∷ LF ∷ s) (sym (eqb-true b CR (and-left (eqb b CR) (eqb c LF) q)))
-        ∙ ap (λ x. b ∷ x ∷ s) (sym (eqb-true c LF (and-right (eqb b CR) (eqb c LF) q)))
-    go false q f g = text-push b (pieces (c ∷ s)) ∙ ap (λ l. b ∷ l) g
+text-pieces (b ∷ c ∷ s) =
+    ⊎-elim
+    (λ q.
+    let e : b ≡ CR = eqb-true b CR (and-left (eqb b CR) (eqb c LF) q) in
+    let f : c ≡ LF = eqb-true c LF (and-right (eqb b CR) (eqb c LF) q) in
+    rw q (cc (text-pieces s)))
+    (λ q. rw q (text-push b (pieces (c ∷ s)) ∙ ap (λ l. b ∷ l) (text-pieces (c ∷ s))))
+    (true-or-false (eqb b CR && eqb c LF))
 
 text-append : (ps qs : List Piece) → textOf (ps ++ qs) ≡ textOf ps ++ textOf qs
 unfolding textOf
@@ -189,33 +189,16 @@ module _ (e : Edition) where
     at-line : (n : ℕ) → IsLine (tableOf (recs e [] os)) n → At os n
     at-line zero l = absurd (omega (arith, l .0))
     at-line (suc i) l =
+        let small : i < length os = omega (arith, l .1, table-length (recs e [] os), length-recs e [] os) in
+        let before = take i os in
+        let p = getD os i (wholeLine []) in
+        let behind = drop (suc i) os in
+        let split : os ≡ before ++ (p ∷ behind) = split-at os i (wholeLine []) small in
+        let cut′ = cut ∙ ap (λ ps. ps ++ rest) split in
+        let ended′ = subst AllEnded split ended in
         subst (λ (ps : List Piece). At ps (suc i)) (sym split)
-        (subst (λ j. At (before ++ (p ∷ behind)) (suc j)) count
+        (subst (λ j. At (before ++ (p ∷ behind)) (suc j)) (length-take-le i os (omega arith))
         (line-nth e file before p behind rest cut′ ended′, line-ended e file before p behind rest cut′ ended′))
-      where
-        small : i < length os
-        small = omega (arith, l .1, table-length (recs e [] os), length-recs e [] os)
-
-        before : List Piece
-        before = take i os
-
-        behind : List Piece
-        behind = drop (suc i) os
-
-        p : Piece
-        p = getD os i (wholeLine [])
-
-        split : os ≡ before ++ (p ∷ behind)
-        split = split-at os i (wholeLine []) small
-
-        count : length before ≡ i
-        count = length-take-le i os (omega (arith, small))
-
-        cut′ : pieces file ≡ before ++ (p ∷ behind) ++ rest
-        cut′ = cut ∙ ap (λ ps. ps ++ rest) split
-
-        ended′ : AllEnded (before ++ (p ∷ behind))
-        ended′ = subst AllEnded split ended
 
   pointed : (file : Text) (os rest : List Piece) → pieces file ≡ os ++ rest → AllEnded os → Pointed file (tableOf (recs e [] os))
   pointed file os rest cut ended =

@@ -1,7 +1,8 @@
 -- The field reader's place and bytes agree.
 use Prim.Native.Nat.{ℕ, zero, suc, _+_, _-_, _≤_}
 use mathlib.Core.Path.{_≡_, refl, sym, ap, _∙_}
-use mathlib.Core.Bool.{Bool, true, false, false≢true}
+use mathlib.Core.Bool.{true, false, false≢true}
+use mathlib.Core.Logic.{⊎-elim}
 use mathlib.Core.List.{[], _∷_, _++_, append-assoc, append-nil}
 use native.Mathlib.Omega.{arith}
 use lib.Dec.{leb}
@@ -14,7 +15,7 @@ use Rattle.dirf.specs.Lines.{fields, field}
 use Rattle.dirf.specs.FieldReader.{fieldThere, fieldOf, fieldStart, fieldLength}
 use Rattle.dirf.specs.LineWriter.{joined}
 use Rattle.dirf.specs.Theorems.ThereAndBack.{FieldPlaced}
-use Rattle.dirf.proofs.Bools.{and-right}
+use Rattle.dirf.proofs.Bools.{and-right, true-or-false}
 use Rattle.dirf.proofs.Bars.{rejoined, length-joined, joined-append}
 
 -- a part of a line, with what stands before and behind it
@@ -54,13 +55,12 @@ somewhere (suc j) line e =
     }
 
 part : (k : ℕ) (line : Text) → Part line (fieldOf k line) (fieldStart k line)
-part k line = go (fieldThere k line) refl
-  where
-    go : (t : Bool) → fieldThere k line ≡ t → Part line (fieldOf k line) (fieldStart k line)
-    go true e = somewhere k line e
-    go false e =
-        let n = nowhere k line e in
-        rw (n .0, n .1) (record { before = line; behind = []; whole = sym (append-nil line); starts = refl })
+part k line =
+    ⊎-elim (somewhere k line)
+    (λ e.
+    let n = nowhere k line e in
+    rw (n .0, n .1) (record { before = line; behind = []; whole = sym (append-nil line); starts = refl }))
+    (true-or-false (fieldThere k line))
 
 pub field-placed : (k : ℕ) (line : Text) → FieldPlaced k line
 unfolding fieldLength

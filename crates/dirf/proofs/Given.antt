@@ -2,7 +2,7 @@
 use Prim.Native.Nat.{ℕ, suc}
 use mathlib.Core.Path.{_≡_, sym, _∙_}
 use mathlib.Core.Bool.{false, true≢false}
-use mathlib.Core.Logic.{_↔_}
+use mathlib.Core.Logic.{_↔_, ⊎-elim}
 use mathlib.Core.List.{List}
 use borrow.Author.Tests.{eq-eqb}
 use Rattle.dirf.specs.Bytes.{Text}
@@ -11,7 +11,7 @@ use Rattle.dirf.specs.Fields.{FieldRule}
 use Rattle.dirf.specs.Rules.{keeps, Rule, askField, askFields, ask, first}
 use Rattle.dirf.specs.Theorems.Plain.{_∈_, Nth, this, next}
 use Rattle.dirf.specs.Theorems.Answered.{Given, by-test, by-field, by-condition}
-use Rattle.dirf.proofs.Asked.{kept-unless, given-false, or-else-left, or-else-right, one-kept, all-kept, first-tries}
+use Rattle.dirf.proofs.Asked.{found-cases, given-false, or-else-left, or-else-right, one-kept, all-kept, first-tries}
 use Rattle.dirf.proofs.Asked.{condition-tries, field-kept, ask-breaks}
 
 row-kept : {rs : List Row} {cs : List Text} {n : ℕ} {r : Row} {s : Text} (xs : List FieldRule) (name : Text) (f : ℕ)
@@ -32,7 +32,7 @@ module _ {A : Type 0} where
       true≢false (sym t ∙ (rw (eq-eqb (of a .kind) (x .kind) k) at kept))
 
   pub none-given-keeps : (a : A) (r : Rule A) → ((n f : ℕ) → Given a n f r → ⊥) → ask r a ≡ keeps
-  none-given-keeps a r no-one = kept-unless (ask r a) (λ n f q. no-one n f (ask-breaks r a q))
+  none-given-keeps a r no-one = ⊎-elim (λ q. q) (λ b. absurd (no-one (b .0) (b .1) (ask-breaks r a (b .2)))) (found-cases (ask r a))
 
   -- a list is kept exactly when no rule of it gives anything
   pub none-given : (rs : List (Rule A)) (a : A) → (first rs a ≡ keeps) ↔ ((n f : ℕ) (r : Rule A) → r ∈ rs → Given a n f r → ⊥)

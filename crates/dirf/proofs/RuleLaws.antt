@@ -1,23 +1,20 @@
 -- What the first breach of a list of rules says: which rule gives it, and where.
 use Prim.Native.Nat.{ℕ}
-use mathlib.Core.Path.{_≡_, refl, _∙_}
+use mathlib.Core.Path.{_≡_, _∙_}
+use mathlib.Core.Logic.{⊎-elim}
 use mathlib.Core.List.{List, [], _∷_}
-use Rattle.dirf.specs.Rules.{Found, keeps, breaks, orElse, Rule, ask, first}
+use Rattle.dirf.specs.Rules.{breaks, orElse, Rule, ask, first}
 use Rattle.dirf.specs.Theorems.Plain.{_∈_}
 use Rattle.dirf.specs.Theorems.Answered.{Given, FirstBroken, this, later}
 use Rattle.dirf.proofs.Says.{it, on}
-use Rattle.dirf.proofs.Asked.{keeps≢breaks, ask-breaks}
+use Rattle.dirf.proofs.Asked.{keeps≢breaks, found-cases, ask-breaks}
 
 module _ {A : Type 0} where
   pub first-broken : (rs : List (Rule A)) (a : A) (n f : ℕ) → first rs a ≡ breaks n f → FirstBroken a n f rs
   unfolding first orElse
   first-broken [] a n f e = absurd (keeps≢breaks e)
-  first-broken (r ∷ rs) a n f e = go (ask r a) refl e (first-broken rs a n f)
-    where
-      go : (x : Found) → ask r a ≡ x → orElse x (first rs a) ≡ breaks n f → (first rs a ≡ breaks n f → FirstBroken a n f rs)
-          → FirstBroken a n f (r ∷ rs)
-      go keeps q e ih = later q (ih e)
-      go (breaks m g) q e ih = this (q ∙ e)
+  first-broken (r ∷ rs) a n f e =
+      ⊎-elim (λ q. later q (first-broken rs a n f (rw q at e))) (λ b. this (b .2 ∙ (rw (b .2) at e))) (found-cases (ask r a))
 
   pub broken-first : {rs : List (Rule A)} {a : A} {n f : ℕ} → FirstBroken a n f rs → first rs a ≡ breaks n f
   unfolding first orElse
