@@ -46,7 +46,8 @@ module _ (e : Edition) (sound : Sound e) (room : ℕ) where
   all-ended before (p ∷ ps) k = (line-ended before p (k .0), all-ended (recOf e before p ∷ before) ps (k .1))
 
   -- and within the limit and the room
-  line-fits : (before : List Rec) (p : Piece) → first order (here e room before p) ≡ keeps → (length before < room) × (length before < 65536)
+  line-fits : (before : List Rec) (p : Piece) → first order (here e room before p) ≡ keeps
+      → (length before < room) × (length before < 65536)
   unfolding here
   line-fits before p k =
       let right = right-exactly e sound room before p .0 k in
@@ -57,7 +58,9 @@ module _ (e : Edition) (sound : Sound e) (room : ℕ) where
   recs-fit : (before : List Rec) (ps : List Piece) → length before ≤ room → length before ≤ 65536 → Kept e room before ps
       → (length (recs e before ps) ≤ room) × (length (recs e before ps) ≤ 65536)
   recs-fit before [] a b k = (a, b)
-  recs-fit before (p ∷ ps) a b k = let f = line-fits before p (k .0) in recs-fit (recOf e before p ∷ before) ps (omega (arith, f .0)) (omega (arith, f .1)) (k .1)
+  recs-fit before (p ∷ ps) a b k =
+      let f = line-fits before p (k .0) in
+      recs-fit (recOf e before p ∷ before) ps (omega (arith, f .0)) (omega (arith, f .1)) (k .1)
 
   -- a refusal after some lines that were kept
   stopped : (file : Text) (ps : List Piece) (n f : ℕ) → 1 ≤ n → Kept e room [] ps → Counted file room (refused (recs e [] ps) n f)
@@ -92,7 +95,8 @@ module _ (e : Edition) (sound : Sound e) (room : ℕ) where
             few = omega (arith, table-length before, fit .1);
           }
   counted file v (unclosed l c) = stopped file (pieces file) 1 0 (omega arith) (lines-right e sound room (pieces file) .1 l)
-  counted file v (refuses os p qs n f s l b) = stopped file os n f (omega (arith, broken-number e sound room (recs e [] os) p n f b)) (lines-right e sound room os .1 l)
+  counted file v (refuses os p qs n f s l b) =
+      stopped file os n f (omega (arith, broken-number e sound room (recs e [] os) p n f b)) (lines-right e sound room os .1 l)
 
 pub counts : (e : Edition) → Sound e → Counts e
 counts e sound file room = counted e sound room file (verdict e file room) (answered e sound file room)

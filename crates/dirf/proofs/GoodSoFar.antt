@@ -97,7 +97,9 @@ module _ (e : Edition) (sound : Sound e) (room : ℕ) where
       (next (recOf e before (wholeLine line) ∷ before) (omega arith) (stays-open before line open′) r (most - 1) (omega arith))
 
   close2 : ClosedBy 2 2
-  close2 = before-it 2 1 (c .line3) (omega arith) (c .open3) (c .after2) (λ before h q r. close3 before (omega arith) q (omega arith) (omega arith))
+  close2 =
+      before-it 2 1 (c .line3) (omega arith) (c .open3) (c .after2)
+      (λ before h q r. close3 before (omega arith) q (omega arith) (omega arith))
 
   close1 : ClosedBy 1 3
   close1 = before-it 1 2 (c .line2) (omega arith) (c .open2) (c .after1) close2

@@ -16,5 +16,6 @@ use Rattle.dirf.specs.Amounts.{amounts-opens}
 use Rattle.dirf.specs.Marked.{MarkedHold, fileOf, numberFound, answer}
 
 pub marked-hold : MarkedHold
-unfolding bytes-opens kinds-opens edition-opens lines-opens numbers-opens fields-opens conditions-opens rules-opens tree-opens keys-opens order-opens check-opens amounts-opens fileOf numberFound answer
+unfolding bytes-opens kinds-opens edition-opens lines-opens numbers-opens fields-opens conditions-opens rules-opens
+    tree-opens keys-opens order-opens check-opens amounts-opens fileOf numberFound answer
 marked-hold = refl

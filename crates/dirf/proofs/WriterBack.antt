@@ -49,7 +49,9 @@ module _ (e : Edition) (tests : TestsSay e) (p : Piece) where
   kept-sound each room before n f i b =
       let g = tests room before p n f .0 b in
       ⊎-elim
-      (λ other. true≢false (sym (isIn-says n ofTheLine .1 i) ∙ not-true (isIn n ofTheLine) (given-number (λ m. not (isIn m ofTheLine)) (g .2) other)))
+      (λ other.
+      let no-own = given-number (λ m. not (isIn m ofTheLine)) (g .2) other in
+      true≢false (sym (isIn-says n ofTheLine .1 i) ∙ not-true (isIn n ofTheLine) no-own))
       (λ kept. keeps-gives-none kept (g .2))
       (of-each (each room before) (g .0) (g .1))
 
@@ -57,7 +59,9 @@ module _ (e : Edition) (tests : TestsSay e) (p : Piece) where
       → ask r (here e room before p) ≡ keeps
   sound-kept right room before r m own =
       none-given-keeps (here e room before p) r
-      λ n f g. right room before n f (isIn-says n ofTheLine .0 (given-number (λ m. isIn m ofTheLine) g own)) (tests room before p n f .1 (r, m, g))
+      λ n f g.
+      let i = isIn-says n ofTheLine .0 (given-number (λ m. isIn m ofTheLine) g own) in
+      right room before n f i (tests room before p n f .1 (r, m, g))
 
 -- contents that keep the rules which the line writer and the check share
 record Kept (c : Contents) : Type 0 where

@@ -33,7 +33,10 @@ loop-again c =
     let f = l .inv .1 .0 in (
       omega arith,
       (
-        record { starts = rw (s .note .ensures, length-set) (f .starts); lens = rw (c .before .before .note2 .ensures, length-set) (f .lens) },
+        record {
+          starts = rw (s .note .ensures, length-set) (f .starts);
+          lens = rw (c .before .before .note2 .ensures, length-set) (f .lens);
+        },
         l .inv .1 .1 ∙ along-on _ (l .i) (l .at) _ h ∙ cc (s .note .ensures, c .before .before .note2 .ensures, c .capped .ensures),
       ),
     )
