@@ -7,8 +7,9 @@ use mathlib.Core.List.{List, [], _∷_, _++_, List·Memᴰ·head, List·Memᴰ·
 use mathlib.Core.List.{cons≢nil, head-eq-of-cons-eq, tail-eq-of-cons-eq}
 use native.Mathlib.Omega.{arith}
 use lib.Dec.{eqb, ltb, leb}
-use borrow.Author.Tests.{eqb-true, eq-eqb, leb-true, le-leb, ltb-true, lt-ltb}
+use borrow.Author.Tests.{eqb-true, eq-eqb, leb-true, le-leb, ltb-true, ltb-false, lt-ltb}
 use Rattle.dirf.specs.Bytes.{Text, every, some, isIn, same, less, isDigit, isEmpty, beginsWith, endsWith}
+use Rattle.dirf.proofs.Bools.{true-or-false}
 use Rattle.dirf.specs.Theorems.Plain.{_∈_, Smaller, beginning, at-byte}
 
 -- a test says P: it is true exactly when P holds
@@ -42,6 +43,11 @@ denies false p = (λ e h. true≢false (sym (p .1 h)), λ h. refl)
 pub says-by : {P Q : Type 0} {a : Bool} → (P → Q) → (Q → P) → Says a P → Says a Q
 says-by f g p = (λ e. f (p .0 e), λ q. p .1 (g q))
 
+-- two tests that say as much answer the same
+pub same-answer : {P Q : Type 0} (a b : Bool) → (P → Q) → (Q → P) → Says a P → Says b Q → a ≡ b
+same-answer true b f g p q = sym (q .1 (f (p .0 refl)))
+same-answer false b f g p q = sym (denies b q .1 (λ h. true≢false (sym (p .1 (g h)))))
+
 pub eqb-says : (a b : ℕ) → Says (eqb a b) (a ≡ b)
 eqb-says a b = (eqb-true a b, eq-eqb a b)
 
@@ -50,6 +56,10 @@ leb-says a b = (leb-true a b, le-leb a b)
 
 pub ltb-says : (a b : ℕ) → Says (ltb a b) (a < b)
 ltb-says a b = (ltb-true a b, lt-ltb a b)
+
+-- below a number, or from it on
+pub below-or : {P : Type 0} (n k : ℕ) → (k < n → P) → (n ≤ k → P) → P
+below-or n k under past = ⊎-elim (λ e. under (ltb-true k n e)) (λ e. past (ltb-false k n e)) (true-or-false (ltb k n))
 
 pub it : {A : Type 0} {x : A} {xs : List A} → x ∈ (x ∷ xs)
 it = List·Memᴰ·head refl

@@ -14,21 +14,6 @@ Inv-loop line from i₀ i = (i ≤ length line) × (i + barIn (drop i line) ≡ 
 abbrev μ-loop : tie.MeasureT-loop
 μ-loop line from i₀ i = length line - i
 
-returns : tie.Need-returns Inv-loop μ-loop
-returns c =
-    let l = c .before .before .before in
-    omega (arith, bar-here (l .before .args .line .now) (l .loop .i) (c .if1 .taken) (omega arith))
-
-loop-again : tie.Need-loop-again Inv-loop μ-loop
-loop-again c =
-    let l = c .before .before .before in
-    omega (arith, bar-past (l .before .args .line .now) (l .loop .i) (c .if1 .left) (omega arith))
-
-returns-2 : tie.Need-returns-2 Inv-loop μ-loop
-returns-2 c =
-    let l = c .before in
-    omega (arith, bar-end (l .before .args .line .now) (l .loop .i) (omega arith))
-
 pub bar-from-spec : {M : Type 1} → statement M
 bar-from-spec =
     tie.close
@@ -37,8 +22,14 @@ bar-from-spec =
     μ-loop
     (λ c. omega arith)
     (λ c. omega arith)
-    returns
+    (λ c.
+    let l = c .before .before .before in
+    omega (arith, bar-here (l .before .args .line .now) (l .loop .i) (c .if1 .taken) (omega arith)))
     (λ c. omega arith)
     (λ c. omega arith)
-    loop-again
-    returns-2)
+    (λ c.
+    let l = c .before .before .before in
+    omega (arith, bar-past (l .before .args .line .now) (l .loop .i) (c .if1 .left) (omega arith)))
+    (λ c.
+    let l = c .before in
+    omega (arith, bar-end (l .before .args .line .now) (l .loop .i) (omega arith))))

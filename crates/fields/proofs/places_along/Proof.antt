@@ -20,13 +20,24 @@ Inv-loop lengths starts₀ lens₀ at₀ i₀ starts lens at i =
 abbrev μ-loop : tie.MeasureT-loop
 μ-loop lengths starts₀ lens₀ at₀ i₀ starts lens at i = length lengths - i
 
-loop-holds : tie.Need-loop-holds Inv-loop μ-loop
-unfolding placesAlong noPlaces
-loop-holds c = (omega arith, (record { starts = refl; lens = refl }, refl))
-
-loop-again : tie.Need-loop-again Inv-loop μ-loop
-unfolding addPlace
-loop-again c =
+pub places-along-spec : {M : Type 1} → statement M
+unfolding placesAlong noPlaces addPlace
+places-along-spec =
+    tie.close
+    (tie.spec
+    Inv-loop
+    μ-loop
+    (λ c. (omega arith, (record { starts = refl; lens = refl }, refl)))
+    (λ c. omega arith)
+    (λ c. omega arith)
+    (λ c. sym (c .before .before .before .loop .inv .1 .0 .starts))
+    (λ c κs. search needs)
+    (λ c. sym (c .before .before .before .before .before .before .loop .inv .1 .0 .lens))
+    (λ c κs. search needs)
+    (λ c κs. search needs)
+    (λ c. omega arith)
+    (λ c. omega arith)
+    (λ c.
     let s = c .before .before .before .before .before in
     let l = s .before .before .before .before .loop in
     let h = s .before .before .before .loop-test .taken in
@@ -39,28 +50,7 @@ loop-again c =
         },
         l .inv .1 .1 ∙ along-on _ (l .i) (l .at) _ h ∙ cc (s .note .ensures, c .before .before .note2 .ensures, c .capped .ensures),
       ),
-    )
-
-returns : tie.Need-returns Inv-loop μ-loop
-returns c =
+    ))
+    (λ c.
     let l = c .before .loop in
-    sym (l .inv .1 .1 ∙ along-end _ (l .i) (l .at) _ (c .loop-test .left))
-
-pub places-along-spec : {M : Type 1} → statement M
-places-along-spec =
-    tie.close
-    (tie.spec
-    Inv-loop
-    μ-loop
-    loop-holds
-    (λ c. omega arith)
-    (λ c. omega arith)
-    (λ c. sym (c .before .before .before .loop .inv .1 .0 .starts))
-    (λ c κs. search needs)
-    (λ c. sym (c .before .before .before .before .before .before .loop .inv .1 .0 .lens))
-    (λ c κs. search needs)
-    (λ c κs. search needs)
-    (λ c. omega arith)
-    (λ c. omega arith)
-    loop-again
-    returns)
+    sym (l .inv .1 .1 ∙ along-end _ (l .i) (l .at) _ (c .loop-test .left))))

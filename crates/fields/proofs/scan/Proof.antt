@@ -2,7 +2,6 @@
 use Prim.Native.Nat.{ℕ, _+_, _≤_, _-_}
 use mathlib.Core.Path.{_≡_, refl, sym, ap₂, _∙_}
 use mathlib.Core.Logic.{⊎-elim}
-use mathlib.Core.List.{List}
 use native.Mathlib.Omega.{arith}
 use borrow.Author.Needs.{needs}
 use lib.ListN.{length, drop, length-set}
@@ -25,10 +24,6 @@ Inv-loop s count₀ starts₀ lens₀ start₀ i₀ count starts lens start i =
 
 abbrev μ-loop : tie.MeasureT-loop
 μ-loop s count₀ starts₀ lens₀ start₀ i₀ count starts lens start i = length s - i
-
-loop-holds : tie.Need-loop-holds Inv-loop μ-loop
-unfolding placesOf noPlaces
-loop-holds c = (omega arith, (record { starts = refl; lens = refl }, (omega arith, refl)))
 
 -- the bytes up to byte i are the line's, and no field is left to note
 done : (s : Text) (i start : ℕ) (p : Places) → length (clean s) ≡ i + length (clean (drop i s)) → length (clean (drop i s)) ≡ 0
@@ -68,29 +63,21 @@ loop-again c =
     ))
     (c .if2 .came)
 
-returns : tie.Need-returns Inv-loop μ-loop
-returns c =
-    let l = c .before .before .before .before .loop in
-    let h = c .before .before .before .loop-test .taken in
-    let n = sym (c .before .ends-line .ensures) ∙ c .if1 .taken in
-    done _ (l .i) (l .start) _ (l .inv .1 .1 .0) (left-stop _ (l .i) n h) (l .inv .1 .1 .1) (walk-stop _ (l .i) (l .start) _ n h)
-
-returns-2 : tie.Need-returns-2 Inv-loop μ-loop
-returns-2 c =
-    let l = c .before .loop in
-    let h = c .loop-test .left in
-    done _ (l .i) (l .start) _ (l .inv .1 .1 .0) (left-end _ (l .i) h) (l .inv .1 .1 .1) (walk-end _ (l .i) (l .start) _ h)
-
 pub scan-spec : {M : Type 1} → statement M
+unfolding placesOf noPlaces
 scan-spec =
     tie.close
     (tie.spec
     Inv-loop
     μ-loop
-    loop-holds
+    (λ c. (omega arith, (record { starts = refl; lens = refl }, (omega arith, refl))))
     (λ c. omega arith)
     (λ c κs. search needs)
-    returns
+    (λ c.
+    let l = c .before .before .before .before .loop in
+    let h = c .before .before .before .loop-test .taken in
+    let n = sym (c .before .ends-line .ensures) ∙ c .if1 .taken in
+    done _ (l .i) (l .start) _ (l .inv .1 .1 .0) (left-stop _ (l .i) n h) (l .inv .1 .1 .1) (walk-stop _ (l .i) (l .start) _ n h))
     (λ c. sym (c .before .before .before .before .before .before .loop .inv .1 .0 .starts))
     (λ c κs. search needs)
     (λ c. sym (c .before .before .before .before .before .before .before .before .before .loop .inv .1 .0 .lens))
@@ -101,4 +88,7 @@ scan-spec =
     (λ c. omega arith)
     (λ c. omega arith)
     loop-again
-    returns-2)
+    (λ c.
+    let l = c .before .loop in
+    let h = c .loop-test .left in
+    done _ (l .i) (l .start) _ (l .inv .1 .1 .0) (left-end _ (l .i) h) (l .inv .1 .1 .1) (walk-end _ (l .i) (l .start) _ h)))
