@@ -46,21 +46,15 @@ module _ (e : Edition) (sound : Sound e) (room : ℕ) where
   all-ended before (p ∷ ps) k = (line-ended before p (k .0), all-ended (recOf e before p ∷ before) ps (k .1))
 
   -- and within the limit and the room
-  line-fits : (before : List Rec) (p : Piece) → first order (here e room before p) ≡ keeps
-      → (length before < room) × (length before < 65536)
-  unfolding here
-  line-fits before p k =
-      let right = right-exactly e sound room before p .0 k in
-      let roomy : room < suc (length before) → ⊥ = λ h. right 7 0 (full h) in
-      let few : 65536 ≤ length before → ⊥ = λ h. right 3 0 (line-65537 h) in
-      (omega arith, omega arith)
-
   recs-fit : (before : List Rec) (ps : List Piece) → length before ≤ room → length before ≤ 65536 → Kept e room before ps
       → (length (recs e before ps) ≤ room) × (length (recs e before ps) ≤ 65536)
+  unfolding here
   recs-fit before [] a b k = (a, b)
   recs-fit before (p ∷ ps) a b k =
-      let f = line-fits before p (k .0) in
-      recs-fit (recOf e before p ∷ before) ps (omega (arith, f .0)) (omega (arith, f .1)) (k .1)
+      let right = right-exactly e sound room before p .0 (k .0) in
+      let roomy : room < suc (length before) → ⊥ = λ h. right 7 0 (full h) in
+      let few : 65536 ≤ length before → ⊥ = λ h. right 3 0 (line-65537 h) in
+      recs-fit (recOf e before p ∷ before) ps (omega arith) (omega arith) (k .1)
 
   -- a refusal after some lines that were kept
   stopped : (file : Text) (ps : List Piece) (n f : ℕ) → 1 ≤ n → Kept e room [] ps → Counted file room (refused (recs e [] ps) n f)

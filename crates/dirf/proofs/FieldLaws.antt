@@ -2,14 +2,13 @@
 use Prim.Native.Nat.{ℕ, zero, suc, _≤_}
 use mathlib.Core.Path.{_≡_, refl, sym}
 use mathlib.Core.Bool.{Bool, false, true≢false}
-use mathlib.Core.Logic.{_≢_, ⊎-elim}
-use mathlib.Core.List.{[], _∷_, List·Memᴰ·head, List·Memᴰ·cases-cons, List·Memᴰ·not-nil, Memᴰ·cast}
+use mathlib.Core.Logic.{_≢_, _⊎_, inl, inr, ⊎-elim}
+use mathlib.Core.List.{[], _∷_, Memᴰ·cast}
 use native.Mathlib.Omega.{arith}
 use lib.Dec.{leb}
 use lib.ListN.{length, take, drop}
 use borrow.Author.Tests.{not-true}
-use Rattle.dirf.specs.Bytes.{Text, every, isIn, same, bytes-opens}
-use Rattle.dirf.specs.Limits.{bar, CR, LF}
+use Rattle.dirf.specs.Bytes.{Text, every, some, isIn, same, bytes-opens}
 use Rattle.dirf.specs.Row.{Row, Format, C, N, D, Fill, fixed, variable, Need, obligatory, optional, Holds, identifier, amount, months}
 use Rattle.dirf.specs.Row.{ddd, telephone, cpf, cnpj, cpfOrCnpj, plain, oneOf}
 use Rattle.dirf.specs.Numbers.{valueOf, isLeap, daysIn, isDay, isDate}
@@ -20,7 +19,7 @@ use Rattle.dirf.specs.Theorems.Plain.{InMonth, long-month, short-month, 
 use Rattle.dirf.proofs.Bools.{true-or-false, if-cases}
 use Rattle.dirf.proofs.Says.{Says, always, never, says-not, says-by, denies, says, eqb-says, leb-says, it, on, some-says, every-says}
 use Rattle.dirf.proofs.Lists.{every-in}
-use Rattle.dirf.proofs.Says.{digit-says, isIn-says, two-says, same-says, begins-says}
+use Rattle.dirf.proofs.Says.{digit-says, two-says, same-says, begins-says}
 
 obligatory-says : (n : Need) → Says (isObligatory n) (n ≡ obligatory)
 unfolding isObligatory
@@ -34,17 +33,11 @@ dated-says N = never (λ h. let z : _≡_ {A = ℕ} 0 1 = cc in omega arith)
 dated-says D = (λ e. refl, λ h. refl)
 
 pub right-byte-says : (f : Format) (b : ℕ) → Says (rightByte f b) (RightByte f b)
-unfolding rightByte
-right-byte-says C b = says-by out in′ (says-not (isIn b (bar ∷ CR ∷ LF ∷ [])) (isIn-says b (bar ∷ CR ∷ LF ∷ [])))
-  where
-    out : (b ∈ (bar ∷ CR ∷ LF ∷ []) → ⊥) → (b ≢ 124) × (b ≢ 13) × (b ≢ 10)
-    out h = (λ e. h (List·Memᴰ·head e), λ e. h (on (List·Memᴰ·head e)), λ e. h (on (on (List·Memᴰ·head e))))
-
-    in′ : (b ≢ 124) × (b ≢ 13) × (b ≢ 10) → b ∈ (bar ∷ CR ∷ LF ∷ []) → ⊥
-    in′ h m =
-        ⊎-elim (h .0)
-        (λ m. ⊎-elim (h .1) (λ m. ⊎-elim (h .2) List·Memᴰ·not-nil (List·Memᴰ·cases-cons m)) (List·Memᴰ·cases-cons m))
-        (List·Memᴰ·cases-cons m)
+unfolding rightByte isIn some
+right-byte-says C b =
+    let parts : Says (rightByte C b) ((b ≡ 124) ⊎ ((b ≡ 13) ⊎ ((b ≡ 10) ⊎ ⊥)) → ⊥) = search (says, never) in
+    says-by (λ h. (λ e. h (inl e), λ e. h (inr (inl e)), λ e. h (inr (inr (inl e)))))
+    (λ h. ⊎-elim (h .0) (⊎-elim (h .1) (⊎-elim (h .2) (λ n. n)))) parts
 right-byte-says N b = digit-says b
 right-byte-says D b = digit-says b
 

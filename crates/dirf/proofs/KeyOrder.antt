@@ -59,25 +59,24 @@ numbers-ordered =
       same = eqb-true;
     }
 
-texts-lexical : Lexical ltb eqb less
-unfolding less
-texts-lexical = record { none = refl; before = λ b bs. refl; behind = λ a as′. refl; both = λ a b as′ bs. refl }
-
+-- both tests of lists go by their first difference, by computing
 texts-ordered : Ordered less same
+unfolding less
 texts-ordered =
+    let by-byte : Lexical ltb eqb less =
+    record { none = refl; before = λ b bs. refl; behind = λ a as′. refl; both = λ a b as′ bs. refl } in
     record {
-      irreflexive = lexical-irreflexive ltb eqb less numbers-ordered texts-lexical;
-      transitive = lexical-transitive ltb eqb less numbers-ordered texts-lexical;
+      irreflexive = lexical-irreflexive ltb eqb less numbers-ordered by-byte;
+      transitive = lexical-transitive ltb eqb less numbers-ordered by-byte;
       same = λ a b. same-says a b .0;
     }
 
-keys-lexical : Lexical less same keyLess
-unfolding keyLess
-keys-lexical = record { none = refl; before = λ b bs. refl; behind = λ a as′. refl; both = λ a b as′ bs. refl }
-
 pub keys-ordered : KeysOrdered
+unfolding keyLess
 keys-ordered =
+    let by-field : Lexical less same keyLess =
+    record { none = refl; before = λ b bs. refl; behind = λ a as′. refl; both = λ a b as′ bs. refl } in
     record {
-      irreflexive = lexical-irreflexive less same keyLess texts-ordered keys-lexical;
-      transitive = lexical-transitive less same keyLess texts-ordered keys-lexical;
+      irreflexive = lexical-irreflexive less same keyLess texts-ordered by-field;
+      transitive = lexical-transitive less same keyLess texts-ordered by-field;
     }

@@ -35,12 +35,6 @@ module _ (e : Edition) (room : ℕ) where
   run-kept before [] qs k = refl
   run-kept before (p ∷ ps) qs k = run-line before p (ps ++ qs) keeps (k .0) ∙ run-kept (recOf e before p ∷ before) ps qs (k .1)
 
-  -- a line that breaks a rule decides, whatever follows
-  pub run-stops : (before : List Rec) (ps : List Piece) (p : Piece) (qs : List Piece) (n f : ℕ) → Kept before ps
-      → FirstBroken (here e room (recs e before ps) p) n f order → run e room before (ps ++ (p ∷ qs)) ≡ refused (recs e before ps) n f
-  unfolding afterLine
-  run-stops before ps p qs n f k b = run-kept before ps (p ∷ qs) k ∙ run-line (recs e before ps) p qs (breaks n f) (broken-first b)
-
   -- one or the other: all lines are kept, or one is the first that is not
   pub data Fate (before : List Rec) (ps : List Piece) : Type 0 where
     passes : Kept before ps → Fate before ps
@@ -64,10 +58,12 @@ module _ (e : Edition) (room : ℕ) where
   unfolding verdict run
   kept-verdict file k = ap (run e room []) (sym (append-nil (pieces file))) ∙ run-kept [] (pieces file) [] k
 
+  -- a line that breaks a rule decides, whatever follows
   pub stops-verdict : (file : Text) (os : List Piece) (p : Piece) (qs : List Piece) (n f : ℕ) → pieces file ≡ os ++ (p ∷ qs) → Kept [] os
       → FirstBroken (here e room (recs e [] os) p) n f order → verdict e file room ≡ refused (recs e [] os) n f
-  unfolding verdict
-  stops-verdict file os p qs n f s k b = ap (run e room []) s ∙ run-stops [] os p qs n f k b
+  unfolding verdict afterLine
+  stops-verdict file os p qs n f s k b =
+      ap (run e room []) s ∙ run-kept [] os (p ∷ qs) k ∙ run-line (recs e [] os) p qs (breaks n f) (broken-first b)
 
   -- each line by itself, and all of them together
   pub kept-at : (before : List Rec) (os : List Piece) (p : Piece) (qs : List Piece) → Kept before (os ++ (p ∷ qs))

@@ -12,8 +12,7 @@ use borrow.Author.Tests.{lt-ltb, le-ltb}
 use Rattle.dirf.specs.Bytes.{if_then_else_, isIn, lookup}
 use Rattle.dirf.specs.Kinds.{Dirf, RESPO, DECPF, DECPJ, IDREC, FIMDirf}
 use Rattle.dirf.specs.Edition.{Edition}
-use Rattle.dirf.specs.Tree.{Rec, Open, opened, opening, declarant, blockOf, mayHold, kindOfFirst, placeIn, place, inOrder, isPlaced}
-use Rattle.dirf.specs.Tree.{mayStand}
+use Rattle.dirf.specs.Tree.{Rec, Open, opening, blockOf, mayHold, kindOfFirst, placeIn, place, inOrder, isPlaced, mayStand}
 use Rattle.dirf.specs.Theorems.Breach.{Holds, Innermost, here, further, NotBefore, Below, StandsAfter, Stands}
 use Rattle.dirf.specs.Theorems.Plain.{_∈_}
 use Rattle.dirf.proofs.Bools.{if-cases}
@@ -69,14 +68,8 @@ placed-says e d c (o ∷ os) k =
     (λ i. record { holder = f .holder; last = f .last; innermost = i .1; ordered = f .ordered }) (innermost-cases (f .innermost)))
     (placed-says e d (some o) os k))
 
--- from line 4 on
-later-says : (e : Edition) (before : List Rec) (k : ℕ)
-    → Says (eqb k FIMDirf || isPlaced (place e before k) k) ((k ≡ FIMDirf) ⊎ Below e (declarant before) k none (opened before))
-unfolding place
-later-says e before k = search (says, placed-says)
-
 pub stands-says : (e : Edition) (before : List Rec) (k : ℕ) → Says (mayStand e before k) (Stands e before k)
-unfolding mayStand opening
+unfolding mayStand opening place
 stands-says e before k = go (length before)
   where
     test : ℕ → Bool
@@ -86,4 +79,4 @@ stands-says e before k = go (length before)
     go zero = one-says k Dirf
     go (suc zero) = one-says k RESPO
     go (suc (suc zero)) = two-says k DECPF DECPJ
-    go (suc (suc (suc n))) = rw (le-ltb (suc (suc (suc n))) 3 (omega arith)) (later-says e before k)
+    go (suc (suc (suc n))) = rw (le-ltb (suc (suc (suc n))) 3 (omega arith)) (search (says, placed-says))

@@ -127,20 +127,17 @@ module _ (e : Edition) (sound : Sound e) (tests : TestsSay e) (k : ℕ) (cells :
   line-clean : NoLineEnd (joined cells)
   line-clean = joined-clean (fit .0)
 
-  line-short : length (clean (joined cells)) ≤ 1024
-  line-short = rw (clean-whole (joined cells) line-clean, length-joined cells) (omega (arith, fit .1, sound .rows .lines k))
-
-  line-barred : endsWith bar (joined cells) ≡ true
-  line-barred = rw (headed .1) (ends-joined (nameOf e k) (headed .0))
-
   line-kept : (room : ℕ) (before : List Rec) → LineKept (here e room before (wholeLine (joined cells)))
   unfolding order here ask lineTooLong inputEnds strayLineEnd noBarAtTheEnd identifierUnknown leftForLater contentsOf isIn some isEmpty
   line-kept room before =
       let h = here e room before (wholeLine (joined cells)) in
-      let k4 : lineTooLong h ≡ false = le-ltb 1024 _ line-short in
+      let whole = clean-whole (joined cells) line-clean in
+      let short : length (clean (joined cells)) ≤ 1024 = rw (whole, length-joined cells) (omega (arith, fit .1, sound .rows .lines k)) in
+      let k4 : lineTooLong h ≡ false = le-ltb 1024 _ short in
       let k5 : inputEnds h ≡ false = refl in
       let k6 : strayLineEnd h ≡ false = rw (nothing-unclean (joined cells) .1 line-clean) in
-      let k8 : noBarAtTheEnd h ≡ false = rw line-barred in
+      let barred : endsWith bar (joined cells) ≡ true = rw (headed .1) (ends-joined (nameOf e k) (headed .0)) in
+      let k8 : noBarAtTheEnd h ≡ false = rw barred in
       let k9 : identifierUnknown h ≡ false = rw same-kind (base-not-zero e k base sound) in
       let k10 : leftForLater h ≡ false = rw same-kind (base-not-later e k base) in
       let k11 : Kept (h .contents) = rw (same-kind, same-fields) kept in
