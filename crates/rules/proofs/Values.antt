@@ -5,11 +5,9 @@ use mathlib.Core.Bool.{Bool, true}
 use mathlib.Core.Logic.{⊎-elim}
 use mathlib.Core.List.{List, [], _∷_}
 use native.Mathlib.Nat.{lt-of-lt-of-le, pow-le-pow-right, min-eq-left, min-eq-right}
-use native.Mathlib.Numerals.{add-one}
 use native.Mathlib.Omega.{arith}
 use lib.Dec.{leb}
-use lib.ListN.{length, getD, drop, drop-of-length-le, List·getD-eq-default}
-use lib.Seq.{drop-cons}
+use lib.ListN.{length, drop, drop-of-length-le, List·getD-eq-default}
 use borrow.Author.Tests.{leb-true, le-leb, lt-leb}
 use Rattle.dirf.specs.Bytes.{if_then_else_, Text, every, isDigit}
 use Rattle.dirf.specs.Numbers.{valueAfter, valueOf, isLeap, daysIn, isDay}
@@ -17,14 +15,9 @@ use Rattle.dirf.proofs.Bools.{and-left, and-right, true-or-false}
 use Rattle.dirf.proofs.Lists.{every-at}
 use Rattle.dirf.proofs.Says.{below-or, digit-says}
 
-module _ (s : Text) (i n : ℕ) where
-  pub value-on : i < length s → valueAfter n (drop i s) ≡ valueAfter (n * 10 + (getD s i 0 - 48)) (drop (i + 1) s)
-  unfolding valueAfter
-  value-on h = rw (add-one, drop-cons s i 0)
-
-  pub value-end : length s ≤ i → valueAfter n (drop i s) ≡ n
-  unfolding valueAfter
-  value-end h = rw (drop-of-length-le s h)
+pub value-end : (s : Text) (i n : ℕ) → length s ≤ i → valueAfter n (drop i s) ≡ n
+unfolding valueAfter
+value-end s i n h = rw (drop-of-length-le s h)
 
 pub value-least : (n : ℕ) (s : Text) → n ≤ valueAfter n s
 unfolding valueAfter
