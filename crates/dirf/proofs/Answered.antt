@@ -68,18 +68,14 @@ module _ (e : Edition) (sound : Sound e) where
   pub answered : Answered e
   answered file room = go (fate e room [] (pieces file))
     where
-      all : List Rec
-      all = recs e [] (pieces file)
-
-      ending : LinesRight e room (pieces file) → Answer e file room (noBytesLeft all)
-      ending l =
-          ⊎-elim
-          (λ q. let c = closed-says all .0 q in rw (shut-ends all c) (accepts (record { lines = l; shut = c })))
-          (λ q. let c = denies (closed all) (closed-says all) .0 q in rw (open-ends all c) (unclosed l c))
-          (true-or-false (closed all))
-
       go : Fate e room [] (pieces file) → Answer e file room (verdict e file room)
-      go (passes k) = rw (kept-verdict e room file k) (ending (lines-right room (pieces file) .0 k))
+      go (passes k) =
+          let all = recs e [] (pieces file) in
+          let l = lines-right room (pieces file) .0 k in
+          rw (kept-verdict e room file k)
+          (⊎-elim (λ q. let c = closed-says all .0 q in rw (shut-ends all c) (accepts (record { lines = l; shut = c })))
+          (λ q. let c = denies (closed all) (closed-says all) .0 q in rw (open-ends all c) (unclosed l c))
+          (true-or-false (closed all)))
       go (stops os p qs n f s k b) =
           rw (stops-verdict e room file os p qs n f s k b) (refuses os p qs n f s (lines-right room os .0 k) b)
 

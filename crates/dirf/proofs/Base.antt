@@ -1,14 +1,14 @@
 -- What is known of a kind of the base, in a sound edition.
 use Prim.Native.Nat.{ℕ, _≤_}
 use mathlib.Core.Path.{_≡_, refl, sym, ap, _∙_}
-use mathlib.Core.Bool.{Bool, true, false, not, or-true, false≢true, true≢false}
+use mathlib.Core.Bool.{true, false, not, or-true, false≢true, true≢false}
 use mathlib.Core.Logic.{⊎-elim}
 use mathlib.Core.List.{List, [], _∷_, map, Memᴰ·cast}
 use native.Mathlib.Omega.{arith}
 use lib.Dec.{eqb, leb}
 use lib.ListN.{length}
 use borrow.Author.Tests.{eqb-true, eq-eqb, leb-true, not-true}
-use Rattle.dirf.specs.Bytes.{if_then_else_, Text, some, same, isIn, lookup}
+use Rattle.dirf.specs.Bytes.{Text, some, same, isIn, lookup}
 use Rattle.dirf.specs.Kinds.{isLater}
 use Rattle.dirf.specs.Row.{Row, obligatory, identifier}
 use Rattle.dirf.specs.Edition.{Edition, kindIn, kindOf, nameOf, rowsIn, rowsOf, isBase}
@@ -57,12 +57,9 @@ module _ (e : Edition) (k : ℕ) (base : isBase e k ≡ true) where
 
   pub base-laid-out : Sound e → 1 ≤ length (rowsOf e k)
   base-laid-out sound =
-      let laid = every-in laidOut (Memᴰ·cast (base-name .2) (in-map (λ n. n .0) (base-name .1))) (sound .kinds .laidOut) in
+      let laid = every-in _ (Memᴰ·cast (base-name .2) (in-map (λ n. n .0) (base-name .1))) (sound .kinds .laidOut) in
       ⊎-elim (λ p. leb-true 1 (length (rowsOf e k)) p) (λ p. absurd (false≢true (rw p at (rw base at laid))))
       (true-or-false (leb 1 (length (rowsOf e k))))
-    where
-      laidOut : ℕ → Bool
-      laidOut k = eqb (if isBase e k then 1 else 0) (if leb 1 (length (rowsOf e k)) then 1 else 0)
 
 first-in : (gs : List (List ℕ × List Row)) (k : ℕ) → map (λ g. firstOf (g .1)) gs ≡ map (λ g. (obligatory, identifier)) gs
     → 1 ≤ length (rowsIn gs k) → firstOf (rowsIn gs k) ≡ (obligatory, identifier)

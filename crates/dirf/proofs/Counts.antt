@@ -72,22 +72,18 @@ module _ (e : Edition) (sound : Sound e) (room : ℕ) where
   -- an answer's table: the entries of some lines that were kept
   counted : (file : Text) (v : Verdict) → Answer e file room v → Counted file room v
   unfolding accepted refused
-  counted file v (accepts a) = whole (lines-right e sound room (pieces file) .1 (a .lines))
-    where
-      before : List Rec
-      before = recs e [] (pieces file)
-
-      whole : Kept e room [] (pieces file) → Counted file room (accepted before)
-      whole k =
-          let count : length before ≡ lineEnds file =
-          length-recs e [] (pieces file) ∙ zero-add (length (pieces file)) ∙ line-count file (all-ended [] (pieces file) k) in
-          let fit = recs-fit [] (pieces file) (omega arith) (omega arith) k in
-          record {
-            when-accepted = λ q. (count, table-length before ∙ count);
-            when-refused = λ q. absurd (q refl);
-            fits = omega (arith, table-length before, fit .0);
-            few = omega (arith, table-length before, fit .1);
-          }
+  counted file v (accepts a) =
+      let k = lines-right e sound room (pieces file) .1 (a .lines) in
+      let before = recs e [] (pieces file) in
+      let count : length before ≡ lineEnds file =
+      length-recs e [] (pieces file) ∙ zero-add (length (pieces file)) ∙ line-count file (all-ended [] (pieces file) k) in
+      let fit = recs-fit [] (pieces file) (omega arith) (omega arith) k in
+      record {
+        when-accepted = λ q. (count, table-length before ∙ count);
+        when-refused = λ q. absurd (q refl);
+        fits = omega (arith, table-length before, fit .0);
+        few = omega (arith, table-length before, fit .1);
+      }
   counted file v (unclosed l c) = stopped file (pieces file) 1 0 (omega arith) (lines-right e sound room (pieces file) .1 l)
   counted file v (refuses os p qs n f s l b) =
       stopped file os n f (omega (arith, broken-number e sound room (recs e [] os) p n f b)) (lines-right e sound room os .1 l)

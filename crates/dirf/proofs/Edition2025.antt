@@ -1,15 +1,15 @@
 -- The edition of 2025 is sound: computed tests over its tables, and four lines that close a file.
-use Prim.Native.Nat.{ℕ, suc}
-use mathlib.Core.Path.{_≡_, refl, sym, ap, _∙_}
-use mathlib.Core.Bool.{Bool, true, false, _||_, not, true≢false}
-use mathlib.Core.Logic.{⊎-elim}
-use mathlib.Core.List.{List, [], _∷_}
+use Prim.Native.Nat.{ℕ, suc, _<_}
+use mathlib.Core.Path.{_≡_, refl, sym, _∙_}
+use mathlib.Core.Bool.{Bool, true, false, _&&_, _||_, true≢false}
+use mathlib.Core.Logic.{_⊎_, ⊎-elim}
+use mathlib.Core.List.{List, []}
 use native.Mathlib.Omega.{arith}
 use lib.Dec.{eqb, ltb}
 use lib.ListN.{length}
-use borrow.Author.Tests.{eqb-true, eq-eqb, ltb-true, le-ltb}
-use Rattle.dirf.specs.Bytes.{bytes, every, isIn, lookup, bytes-opens}
-use Rattle.dirf.specs.Kinds.{DECPF, IDREC, SCP, declarants, blocks, withIDREC, belowSCP, isBlock, isBeneficiary, kinds-opens}
+use borrow.Author.Tests.{le-ltb}
+use Rattle.dirf.specs.Bytes.{if_then_else_, bytes, every, isIn, lookup, bytes-opens}
+use Rattle.dirf.specs.Kinds.{DECPF, IDREC, SCP, declarants, blocks, withIDREC, belowSCP, isBeneficiary, kinds-opens}
 use Rattle.dirf.specs.Below.{underDECPF, underDECPJ, below2025}
 use Rattle.dirf.specs.Edition.{edition2025, edition-opens}
 use Rattle.dirf.specs.Lines.{lines-opens}
@@ -23,41 +23,34 @@ use Rattle.dirf.specs.Order.{line-opens}
 use Rattle.dirf.specs.Theorems.Plain.{_∈_}
 use Rattle.dirf.specs.Theorems.Sound.{level, Nested, rising, Closable, Sound}
 use Rattle.dirf.proofs.Bools.{or-cases, if-cases}
-use Rattle.dirf.proofs.Says.{says-or, isIn-says}
-use Rattle.dirf.proofs.Lists.{listed, every-in}
+use Rattle.dirf.proofs.Says.{Says, says, isIn-says}
+use Rattle.dirf.proofs.Lists.{every-in}
 use Rattle.dirf.proofs.Tables.{in-table, rows-right, kinds-right}
 
--- what is asked of a record of kind k below one of kind h: where the first of a pair holds, the second does
-asks : ℕ → ℕ → List (Bool × Bool)
-asks h k =
-    (true, ltb (level h) (level k)) ∷
-    (eqb (level k) 4, eqb (level h) 3) ∷
-    (eqb (level k) 3, eqb (level h) 2) ∷
-    (eqb h SCP, isIn k belowSCP) ∷
-    (eqb k IDREC, isIn h withIDREC || isIn h declarants) ∷
-    (isBlock k, isIn h declarants) ∷
-    []
-
+-- what is asked of a record of kind k below one of kind h
 nests : ℕ → ℕ → Bool
-nests h k = every (λ q. not (q .0) || q .1) (asks h k)
-
-asked : (h k : ℕ) (a b : Bool) → (a, b) ∈ asks h k → nests h k ≡ true → a ≡ true → b ≡ true
-unfolding nests
-asked h k a b m e q =
-    ⊎-elim (λ n. absurd (true≢false (sym n ∙ ap not q))) (λ y. y) (or-cases (not a) b (every-in (λ q. not (q .0) || q .1) m e))
+nests h k =
+    ltb (level h) (level k)
+    && (if eqb (level k) 4 then eqb (level h) 3 else true)
+    && (if eqb (level k) 3 then eqb (level h) 2 else true)
+    && (if eqb h SCP then isIn k belowSCP else true)
+    && (if eqb k IDREC then isIn h withIDREC || isIn h declarants else true)
+    && (if isIn k blocks then isIn h declarants else true)
 
 nested-of : (h k : ℕ) → nests h k ≡ true → Nested h k
-unfolding asks isBlock
+unfolding nests
 nested-of h k e =
+    let parts : Says (nests h k)
+    ((((((level h < level k) × (level k ≡ 4 → level h ≡ 3)) × (level k ≡ 3 → level h ≡ 2)) × (h ≡ SCP → k ∈ belowSCP))
+    × (k ≡ IDREC → (h ∈ withIDREC) ⊎ (h ∈ declarants))) × (k ∈ blocks → h ∈ declarants)) = search says depth 20 in
+    let n = parts .0 e in
     record {
-      deeper = ltb-true (level h) (level k) (asked h k true _ (search listed depth 20) e refl);
-      of-beneficiary = λ q. eqb-true (level h) 3 (asked h k (eqb (level k) 4) _ (search listed depth 20) e (eq-eqb (level k) 4 q));
-      of-IDREC-or-SCP = λ q. eqb-true (level h) 2 (asked h k (eqb (level k) 3) _ (search listed depth 20) e (eq-eqb (level k) 3 q));
-      of-SCP = λ q. isIn-says k belowSCP .0 (asked h k (eqb h SCP) _ (search listed depth 20) e (eq-eqb h SCP q));
-      of-block-or-declarant = λ q.
-          says-or (isIn h withIDREC) (isIn h declarants) (isIn-says h withIDREC) (isIn-says h declarants) .0
-          (asked h k (eqb k IDREC) _ (search listed depth 20) e (eq-eqb k IDREC q));
-      of-declarant = λ m. isIn-says h declarants .0 (asked h k (isIn k blocks) _ (search listed depth 20) e (isIn-says k blocks .1 m));
+      deeper = n .0 .0 .0 .0 .0;
+      of-beneficiary = n .0 .0 .0 .0 .1;
+      of-IDREC-or-SCP = n .0 .0 .0 .1;
+      of-SCP = n .0 .0 .1;
+      of-block-or-declarant = n .0 .1;
+      of-declarant = n .1;
     }
 
 -- of either declarant's table
@@ -70,7 +63,7 @@ below-says test none pf pj d h =
     (λ _. in-table test [] none underDECPJ pj h)
 
 nested2025 : (d h k : ℕ) → isIn k (lookup [] (below2025 d) h) ≡ true → Nested h k
-unfolding bytes-opens kinds-opens asks nests level
+unfolding bytes-opens kinds-opens nests level
 nested2025 d h k m =
     nested-of h k
     (every-in (nests h) (isIn-says k (lookup [] (below2025 d) h) .0 m) (below-says (λ h ks. every (nests h) ks) (λ h. refl) refl refl d h))

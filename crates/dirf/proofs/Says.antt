@@ -8,7 +8,7 @@ use mathlib.Core.List.{cons≢nil, head-eq-of-cons-eq, tail-eq-of-cons-eq}
 use native.Mathlib.Omega.{arith}
 use lib.Dec.{eqb, ltb, leb}
 use borrow.Author.Tests.{eqb-true, eq-eqb, leb-true, le-leb, ltb-true, ltb-false, lt-ltb}
-use Rattle.dirf.specs.Bytes.{Text, every, some, isIn, same, less, isDigit, isEmpty, beginsWith, endsWith}
+use Rattle.dirf.specs.Bytes.{if_then_else_, Text, every, some, isIn, same, less, isDigit, isEmpty, beginsWith, endsWith}
 use Rattle.dirf.proofs.Bools.{true-or-false}
 use Rattle.dirf.specs.Theorems.Plain.{_∈_, Smaller, beginning, at-byte}
 
@@ -34,6 +34,11 @@ says-or false b p q = (λ e. inr (q .0 e), ⊎-elim (λ h. absurd (true≢false 
 pub says-not : {P : Type 0} (a : Bool) → Says a P → Says (not a) (P → ⊥)
 says-not true p = never (λ h. h (p .0 refl))
 says-not false p = (λ e h. true≢false (sym (p .1 h)), λ h. refl)
+
+-- a test asked only where another holds
+pub says-if : {P Q : Type 0} (a b : Bool) → Says a P → Says b Q → Says (if a then b else true) (P → Q)
+says-if true b p q = (λ e h. q .0 e, λ f. q .1 (f (p .0 refl)))
+says-if false b p q = (λ e h. absurd (true≢false (sym (p .1 h))), λ f. refl)
 
 -- a test that is not true does not hold
 pub denies : {P : Type 0} (a : Bool) → Says a P → (a ≡ false) ↔ (P → ⊥)
@@ -116,7 +121,7 @@ same-says (x ∷ xs) (y ∷ ys) =
     (says-and (eqb x y) (same xs ys) (eqb-says x y) (same-says xs ys))
 
 -- `search says` finds what a test says that is put together from these
-pub ruleset says = (says-and, says-or, says-not, eqb-says, leb-says, ltb-says, isIn-says, digit-says, empty-says, same-says)
+pub ruleset says = (says-and, says-or, says-not, says-if, eqb-says, leb-says, ltb-says, isIn-says, digit-says, empty-says, same-says)
 
 pub begins-says : (b : ℕ) (s : Text) → Says (beginsWith b s) ((t : Text) × (s ≡ b ∷ t))
 unfolding beginsWith

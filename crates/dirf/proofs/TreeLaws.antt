@@ -1,7 +1,7 @@
 -- 12: what the test says of the tree.
 use Prim.Native.Nat.{ℕ, zero, suc}
 use mathlib.Core.Path.{_≡_, refl, sym, subst}
-use mathlib.Core.Bool.{Bool, true, false, _&&_, _||_, true≢false}
+use mathlib.Core.Bool.{Bool, _&&_, _||_}
 use mathlib.Core.Logic.{_⊎_, inl, inr, ⊎-elim}
 use mathlib.Core.List.{List, [], _∷_}
 use mathlib.Core.Option.{Option, none, some}
@@ -18,17 +18,12 @@ use Rattle.dirf.specs.Theorems.Plain.{_∈_}
 use Rattle.dirf.proofs.Bools.{if-cases}
 use Rattle.dirf.proofs.Says.{Says, never, says-and, says-by, denies, says, leb-says, one-says, two-says}
 
--- a test asked only where another holds
-says-if : {P Q : Type 0} (a b : Bool) → Says a P → Says b Q → Says (if a then b else true) (P → Q)
-says-if true b p q = (λ e h. q .0 e, λ f. q .1 (f (p .0 refl)))
-says-if false b p q = (λ e h. absurd (true≢false (sym (p .1 h))), λ f. refl)
-
 holds-says : (e : Edition) (d : ℕ) (o : Open) (outer : List Open) (k : ℕ)
     → Says (mayHold e d (o .kind) (kindOfFirst outer) k) (Holds e d o outer k)
 unfolding mayHold
 holds-says e d o outer k =
     let parts : Says (mayHold e d (o .kind) (kindOfFirst outer) k)
-    ((k ∈ lookup [] (e .below d) (o .kind)) × (o .kind ≡ IDREC → blockOf d k ≡ kindOfFirst outer)) = search (says, says-if) in
+    ((k ∈ lookup [] (e .below d) (o .kind)) × (o .kind ≡ IDREC → blockOf d k ≡ kindOfFirst outer)) = search says in
     says-by (λ h. record { listed = h .0; block = h .1 }) (λ h. (h .listed, h .block)) parts
 
 order-says : (c : Option Open) (k : ℕ) → Says (inOrder c k) (NotBefore c k)

@@ -1,10 +1,10 @@
 -- What stands at a place is the field, and where there is no field, nothing.
-use Prim.Native.Nat.{ℕ, zero, suc, _+_, _-_, _≤_}
-use mathlib.Core.Path.{_≡_, refl, sym, ap, _∙_}
+use Prim.Native.Nat.{ℕ, suc, _+_, _-_, _≤_}
+use mathlib.Core.Path.{_≡_, sym, ap, _∙_}
 use mathlib.Core.List.{[], _∷_}
 use native.Mathlib.Omega.{arith}
 use lib.Dec.{eqb}
-use lib.ListN.{length, getD, take, drop, replicate, List·getD-eq-default}
+use lib.ListN.{length, getD, take, drop, replicate, length-replicate, getD-replicate, List·getD-eq-default}
 use lib.Seq.{getD-set-other}
 use Rattle.dirf.specs.Bytes.{Text}
 use Rattle.dirf.specs.Limits.{bar}
@@ -31,9 +31,8 @@ ended-from (b ∷ s) start at p w =
     (λ _. ended-from s start (at + 1) p w)
 
 nothing : (n i : ℕ) → _≡_ {A = ℕ} (getD (replicate n 0) i 0) 0
-nothing zero i = refl
-nothing (suc n) zero = refl
-nothing (suc n) (suc i) = nothing n i
+nothing n i =
+    below-or n i (getD-replicate n i 0 0) (λ h. List·getD-eq-default (replicate n 0) 0 (simp length-replicate h))
 
 past : (line : Text) → Ended (placesOf line)
 unfolding placesOf noPlaces
