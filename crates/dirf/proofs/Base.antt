@@ -3,7 +3,7 @@ use Prim.Native.Nat.{ℕ, _≤_}
 use mathlib.Core.Path.{_≡_, refl, sym, ap, _∙_}
 use mathlib.Core.Bool.{true, false, not, or-true, false≢true, true≢false}
 use mathlib.Core.Logic.{⊎-elim}
-use mathlib.Core.List.{List, [], _∷_, map, Memᴰ·cast}
+use mathlib.Core.List.{List, [], _∷_, map, Memᴰ·cast, Memᴰ·map}
 use native.Mathlib.Omega.{arith}
 use lib.Dec.{eqb, leb}
 use lib.ListN.{length}
@@ -16,7 +16,7 @@ use Rattle.dirf.specs.Theorems.Plain.{_∈_}
 use Rattle.dirf.specs.Theorems.Sound.{firstOf, Sound}
 use Rattle.dirf.proofs.Bools.{and-left, and-right, if-cases, true-or-false}
 use Rattle.dirf.proofs.Says.{it, on}
-use Rattle.dirf.proofs.Lists.{every-in, in-map}
+use Rattle.dirf.proofs.Lists.{every-in}
 
 -- a kind other than 0 that an identifier names, and that is not left for later, is of the base
 named-in : (ns : List (ℕ × Text)) (s : Text) → eqb (kindIn ns s) 0 ≡ false → some (λ n. eqb (kindIn ns s) (n .0)) ns ≡ true
@@ -57,7 +57,7 @@ module _ (e : Edition) (k : ℕ) (base : isBase e k ≡ true) where
 
   pub base-laid-out : Sound e → 1 ≤ length (rowsOf e k)
   base-laid-out sound =
-      let laid = every-in _ (Memᴰ·cast (base-name .2) (in-map (λ n. n .0) (base-name .1))) (sound .kinds .laidOut) in
+      let laid = every-in _ (Memᴰ·cast (base-name .2) (Memᴰ·map (λ n. n .0) (base-name .1))) (sound .kinds .laidOut) in
       ⊎-elim (λ p. leb-true 1 (length (rowsOf e k)) p) (λ p. absurd (false≢true (rw p at (rw base at laid))))
       (true-or-false (leb 1 (length (rowsOf e k))))
 

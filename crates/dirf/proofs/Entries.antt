@@ -103,56 +103,40 @@ module _ (e : Edition) where
       ∙ ap (λ n. entryAt (tableOf (recOf e before p ∷ before)) (suc n)) (sym count)
       ∙ entry-last (recOf e before p) before
 
+  -- line n of the table of some lines of a file stands there, and CR LF behind it
+  abbrev At : Text → List Piece → ℕ → Type 0
+  At file os n =
+      let t = tableOf (recs e [] os) in
+      Nth (pieces file) n (wholeLine (bytesAt file t n)) × (take 2 (drop (startAt t n + lengthAt t n) file) ≡ 13 ∷ 10 ∷ [])
+
   -- the line p of a file, after the lines os
-  module _ (file : Text) (os : List Piece) (p : Piece) (qs rest : List Piece) (cut : pieces file ≡ os ++ (p ∷ qs) ++ rest)
-      (ended : AllEnded (os ++ (p ∷ qs))) where
-    abbrev t : List Entry
-    t = tableOf (recs e [] (os ++ (p ∷ qs)))
-
-    abbrev n : ℕ
-    n = suc (length os)
-
-    parts : AllEnded os × AllEnded (p ∷ qs)
-    parts = ended-parts os (p ∷ qs) ended
-
-    starts : startAt t n ≡ length (textOf os)
-    unfolding entryOf bytesOf
-    starts = ap (λ x. x .start) (entry-of os p qs) ∙ bytes-read [] os (parts .0) ∙ zero-add (length (textOf os))
-
-    lasts : lengthAt t n ≡ length (p .body)
-    unfolding entryOf recOf
-    lasts = ap (λ x. x .length) (entry-of os p qs)
-
-    on-from : pieces file ≡ os ++ (p ∷ qs ++ rest)
-    on-from = cut ∙ append-assoc os (p ∷ qs) rest
-
-    -- the file is what stands before the line, the line, CR LF, and the rest
-    after : Text
-    after = CR ∷ LF ∷ textOf (qs ++ rest)
-
-    whole : file ≡ textOf os ++ (p .body ++ after)
-    unfolding after
-    whole =
-        sym (text-pieces file) ∙ ap textOf on-from ∙ text-append os (p ∷ qs ++ rest)
-        ∙ ap (λ s. textOf os ++ s) (text-line p (qs ++ rest) (parts .1 .0))
-
-    line-bytes : bytesAt file t n ≡ p .body
-    line-bytes =
-        ap (λ s. take (lengthAt t n) (drop (startAt t n) s)) whole
-        ∙ ap (take (lengthAt t n)) (drop-at (textOf os) (p .body ++ after) (startAt t n) (sym starts))
-        ∙ take-at (p .body) after (lengthAt t n) (sym lasts)
-
-    line-ended : take 2 (drop (startAt t n + lengthAt t n) file) ≡ 13 ∷ 10 ∷ []
-    unfolding after
-    line-ended =
+  line-at : (file : Text) (os : List Piece) (p : Piece) (qs rest : List Piece) → pieces file ≡ os ++ (p ∷ qs) ++ rest
+      → AllEnded (os ++ (p ∷ qs)) → At file (os ++ (p ∷ qs)) (suc (length os))
+  unfolding entryOf bytesOf recOf
+  line-at file os p qs rest cut ended =
+      let n = suc (length os) in
+      let t : List Entry = tableOf (recs e [] (os ++ (p ∷ qs))) in
+      let parts = ended-parts os (p ∷ qs) ended in
+      let starts : startAt t n ≡ length (textOf os) =
+      ap (λ x. x .start) (entry-of os p qs) ∙ bytes-read [] os (parts .0) ∙ zero-add (length (textOf os)) in
+      let lasts : lengthAt t n ≡ length (p .body) = ap (λ x. x .length) (entry-of os p qs) in
+      let on-from : pieces file ≡ os ++ (p ∷ qs ++ rest) = cut ∙ append-assoc os (p ∷ qs) rest in
+      -- the file is what stands before the line, the line, CR LF, and the rest
+      let after : Text = CR ∷ LF ∷ textOf (qs ++ rest) in
+      let whole : file ≡ textOf os ++ (p .body ++ after) =
+      sym (text-pieces file) ∙ ap textOf on-from ∙ text-append os (p ∷ qs ++ rest)
+      ∙ ap (λ s. textOf os ++ s) (text-line p (qs ++ rest) (parts .1 .0)) in
+      let line-bytes : bytesAt file t n ≡ p .body =
+      ap (λ s. take (lengthAt t n) (drop (startAt t n) s)) whole
+      ∙ ap (take (lengthAt t n)) (drop-at (textOf os) (p .body ++ after) (startAt t n) (sym starts))
+      ∙ take-at (p .body) after (lengthAt t n) (sym lasts) in
+      let here : p ≡ wholeLine (bytesAt file t n) = rw line-bytes (ap (λ b. record { body = p .body; ended = b }) (parts .1 .0)) in
+      let end : length (textOf os ++ p .body) ≡ startAt t n + lengthAt t n =
+      length-append (textOf os) (p .body) ∙ omega (arith, starts, lasts) in (
+        subst (Nth (pieces file) n) here (subst (λ ps. Nth ps n p) (sym on-from) (nth-at os p (qs ++ rest))),
         ap (λ s. take 2 (drop (startAt t n + lengthAt t n) s)) (whole ∙ sym (append-assoc (textOf os) (p .body) after))
-        ∙ ap (take 2) (drop-at (textOf os ++ p .body) after (startAt t n + lengthAt t n)
-        (omega (arith, length-append (textOf os) (p .body), starts, lasts)))
-
-    line-nth : Nth (pieces file) n (wholeLine (bytesAt file t n))
-    line-nth =
-        subst (Nth (pieces file) n) (ap (λ b. record { body = p .body; ended = b }) (parts .1 .0) ∙ ap wholeLine (sym line-bytes))
-        (subst (λ ps. Nth ps n p) (sym on-from) (nth-at os p (qs ++ rest)))
+            ∙ ap (take 2) (drop-at (textOf os ++ p .body) after (startAt t n + lengthAt t n) end),
+      )
 
 -- starts follow each other without a gap
 first-start : (rs : List Rec) → 1 ≤ length rs → startAt (tableOf rs) 1 ≡ 0
@@ -181,12 +165,7 @@ next-start (r ∷ x ∷ rs) n h =
 module _ (e : Edition) where
   -- every line of the table of some whole lines of a file, whatever follows them there
   module _ (file : Text) (os rest : List Piece) (cut : pieces file ≡ os ++ rest) (ended : AllEnded os) where
-    abbrev At : List Piece → ℕ → Type 0
-    At os n =
-        let t = tableOf (recs e [] os) in
-        Nth (pieces file) n (wholeLine (bytesAt file t n)) × (take 2 (drop (startAt t n + lengthAt t n) file) ≡ 13 ∷ 10 ∷ [])
-
-    at-line : (n : ℕ) → IsLine (tableOf (recs e [] os)) n → At os n
+    at-line : (n : ℕ) → IsLine (tableOf (recs e [] os)) n → At e file os n
     at-line zero l = absurd (omega (arith, l .0))
     at-line (suc i) l =
         let small : i < length os = omega (arith, l .1, table-length (recs e [] os), length-recs e [] os) in
@@ -196,9 +175,9 @@ module _ (e : Edition) where
         let split : os ≡ before ++ (p ∷ behind) = split-at os i (wholeLine []) small in
         let cut′ = cut ∙ ap (λ ps. ps ++ rest) split in
         let ended′ = subst AllEnded split ended in
-        subst (λ (ps : List Piece). At ps (suc i)) (sym split)
-        (subst (λ j. At (before ++ (p ∷ behind)) (suc j)) (length-take-le i os (omega arith))
-        (line-nth e file before p behind rest cut′ ended′, line-ended e file before p behind rest cut′ ended′))
+        subst (λ (ps : List Piece). At e file ps (suc i)) (sym split)
+        (subst (λ j. At e file (before ++ (p ∷ behind)) (suc j)) (length-take-le i os (omega arith))
+        (line-at e file before p behind rest cut′ ended′))
 
   pointed : (file : Text) (os rest : List Piece) → pieces file ≡ os ++ rest → AllEnded os → Pointed file (tableOf (recs e [] os))
   pointed file os rest cut ended =

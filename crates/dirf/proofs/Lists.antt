@@ -1,8 +1,8 @@
 -- Membership in lists: what holds of each element, and what the tests `every` and `some` say.
 use Prim.Native.Nat.{ℕ, zero, suc, _+_, _<_}
-use mathlib.Core.Path.{_≡_, refl, sym, ap, subst⁻¹}
+use mathlib.Core.Path.{_≡_, refl, sym, subst⁻¹}
 use mathlib.Core.Bool.{Bool, true, _&&_, and-assoc}
-use mathlib.Core.List.{List, [], _∷_, _++_, map, List·Memᴰ·head, List·Memᴰ·tail}
+use mathlib.Core.List.{List, [], _∷_, _++_, List·Memᴰ·head, List·Memᴰ·tail}
 use native.Mathlib.Numerals.{add-one}
 use lib.ListN.{length, getD, drop}
 use lib.Seq.{drop-cons}
@@ -44,7 +44,3 @@ pub every-append : {A : Type 0} (test : A → Bool) (xs ys : List A) → every t
 unfolding every
 every-append test [] ys = refl
 every-append test (x ∷ xs) ys = rw (every-append test xs ys) (sym (and-assoc (test x) (every test xs) (every test ys)))
-
-pub in-map : {A B : Type 0} (f : A → B) {x : A} {xs : List A} → x ∈ xs → f x ∈ map f xs
-in-map f (List·Memᴰ·head p) = List·Memᴰ·head (ap f p)
-in-map f (List·Memᴰ·tail m) = List·Memᴰ·tail (in-map f m)

@@ -7,6 +7,7 @@ use mathlib.Core.List.{List, [], _∷_, _++_, List·Memᴰ·cases-cons, List·Me
 use native.Mathlib.Omega.{arith}
 use lib.Dec.{eqb}
 use lib.ListN.{length, length-append}
+use borrow.Author.Tests.{not-true}
 use Rattle.dirf.specs.Bytes.{Text, bytes, every, same, endsWith}
 use Rattle.dirf.specs.Limits.{bar}
 use Rattle.dirf.specs.Kinds.{DECPF, FIMDirf, later, values, isLater, standsOnce}
@@ -60,8 +61,7 @@ closed-says (r ∷ rs) =
     says-by (λ e. (r, rs, refl, e)) (λ q. ap (λ (x : Rec). x .kind) (head-eq-of-cons-eq (q .2)) ∙ q .3) (eqb-says (r .kind) FIMDirf)
 
 ended-says : (t : Bool) → Says (not t) (t ≡ false)
-ended-says true = (sym, sym)
-ended-says false = (λ e. refl, λ e. refl)
+ended-says t = (not-true t, λ e. rw e)
 
 module _ (h : Here) where
   -- 2
