@@ -174,39 +174,25 @@ unfolding sum together
 sum-together [] = refl
 sum-together (c ∷ cs) = rw (sum-together cs) (sym (length-append c (together cs)))
 
--- a line that breaks no rule of a line
-module _ (e : Edition) (tests : TestsSay e) (line : Text) (right : Sound-line e (wholeLine line)) where
-  kept-here : (r : Rule Here) → r ∈ order → numbersPass (λ n. isIn n ofTheLine) r ≡ true → ask r (here e 0 [] (wholeLine line)) ≡ keeps
-  kept-here = sound-kept e tests (wholeLine line) right 0 []
-
-  line-whole : joined (fields line) ≡ line
-  unfolding order here ask noBarAtTheEnd isIn some
-  line-whole = joined-fields line (not-false _ (given-false 8 0 _ (kept-here (gives 8 0 noBarAtTheEnd) (search listed depth 30) refl)))
-
-  line-base : isBase e (kindOfLine e line) ≡ true
-  unfolding order here ask identifierUnknown leftForLater contentsOf kindOfLine isIn some
-  line-base =
-      named-base e (field 1 (fields line))
-      (given-false 9 1 _ (kept-here (gives 9 1 identifierUnknown) (search listed depth 30) refl))
-      (given-false 10 1 _ (kept-here (gives 10 1 leftForLater) (search listed depth 30) refl))
-
-  line-contents : Kept (contentsOf e (kindOfLine e line) (fields line))
-  unfolding order here ask every isIn some fieldOrder
-  line-contents =
-      record {
-        counted = given-false 11 0 _ (kept-here (gives 11 0 (λ h. wrongNumberOfFields (h .contents))) (search listed depth 30) refl);
-        asked = kept-here (fieldByField fieldOrder (λ h. h .contents)) (search listed depth 30) refl;
-        conditioned = kept-here (conditions 19 conditionOrder (λ h. h .contents)) (search listed depth 30) refl;
-      }
-
+-- a line that breaks no rule of a line: it is its fields joined, its kind is of the base, and its contents keep the writer's rules
 pub reader-writes-back : (e : Edition) → Sound e → TestsSay e → ReaderWritesBack e
-unfolding writeLine writing writes lineOf contentsOf
+unfolding writeLine writing writes lineOf contentsOf kindOfLine order here ask noBarAtTheEnd identifierUnknown leftForLater
+    every isIn some fieldOrder
 reader-writes-back e _ tests line room right fits =
+    let kept-here = sound-kept e tests (wholeLine line) right 0 [] in
+    let k8 = given-false 8 0 _ (kept-here (gives 8 0 noBarAtTheEnd) (search listed depth 30) refl) in
+    let k9 = given-false 9 1 _ (kept-here (gives 9 1 identifierUnknown) (search listed depth 30) refl) in
+    let k10 = given-false 10 1 _ (kept-here (gives 10 1 leftForLater) (search listed depth 30) refl) in
     let cells = fields line in
-    let ns = map length cells in
     let c = contentsOf e (kindOfLine e line) cells in
-    let w : Writing = record { edition = e; contents = c; lengths = ns; given = together cells; room = room } in
-    let whole = line-whole e tests line right in
+    let kept : Kept c =
+    record {
+      counted = given-false 11 0 _ (kept-here (gives 11 0 (λ h. wrongNumberOfFields (h .contents))) (search listed depth 30) refl);
+      asked = kept-here (fieldByField fieldOrder (λ h. h .contents)) (search listed depth 30) refl;
+      conditioned = kept-here (conditions 19 conditionOrder (λ h. h .contents)) (search listed depth 30) refl;
+    } in
+    let w : Writing = record { edition = e; contents = c; lengths = map length cells; given = together cells; room = room } in
+    let whole = joined-fields line (not-false _ k8) in
     let enough : length (lineOf cells) ≤ room = rw (whole, length-append) fits in
-    let found = writer-keeps w (line-base e tests line right) (line-contents e tests line right) (sum-together cells) enough in
+    let found = writer-keeps w (named-base e (field 1 cells) k9 k10) kept (sum-together cells) enough in
     rw (cut-together cells, found, whole)
