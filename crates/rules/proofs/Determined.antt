@@ -9,12 +9,9 @@ use Rattle.rules.specs.declared.AmountRead.the-variants as amount
 use Rattle.rules.specs.declared.MonthRead.{MonthRead}
 use Rattle.rules.specs.declared.MonthRead.the-variants as month
 use Rattle.rules.specs.Findings.{amountSays, monthSays}
-use Rattle.rules.proofs.field_rule.Reads as field-rule
-use Rattle.rules.proofs.read_amount.Reads as read-amount
-use Rattle.rules.proofs.read_months.Reads as read-months
-use Rattle.rules.proofs.contents_found.Reads as contents-found
+use Rattle.rules.proofs as rules
 
-pub field-rule-one : One field-rule.Post
+pub field-rule-one : One rules.field_rule.Reads.Post
 field-rule-one κs a x y s t p q = p ∙ sym q
 
 -- two answers that say the same are the same, but for a refusal with number 0
@@ -39,13 +36,13 @@ month-cases : (x : MonthRead) → ((monthSays x .number ≡ 0) × (x ≡ month.V
 month-cases (month.Value c) = inl (refl, refl)
 month-cases (month.Refused n) = inr refl
 
-pub read-amount-one : One read-amount.Post
+pub read-amount-one : One rules.read_amount.Reads.Post
 read-amount-one κs a x y s t p q =
     one-answer amountSays (λ v. amount.Value (record { 0 = v })) amount.Refused amount-cases x y (p .0 ∙ sym (q .0)) (p .1) (q .1)
 
-pub read-months-one : One read-months.Post
+pub read-months-one : One rules.read_months.Reads.Post
 read-months-one κs a x y s t p q =
     one-answer monthSays (λ v. month.Value (record { 0 = v })) month.Refused month-cases x y (p .0 ∙ sym (q .0)) (p .1) (q .1)
 
-pub contents-found-one : One contents-found.Post
+pub contents-found-one : One rules.contents_found.Reads.Post
 contents-found-one κs a x y s t p q = p ∙ sym q
