@@ -8,18 +8,12 @@ use native.Mathlib.Omega.{arith}
 use lib.Dec.{eqb, ltb}
 use lib.ListN.{length}
 use borrow.Author.Tests.{le-ltb}
+use Rattle.dirf.specs as specs
 use Rattle.dirf.specs.Bytes.{if_then_else_, bytes, every, isIn, lookup, bytes-opens}
 use Rattle.dirf.specs.Kinds.{DECPF, IDREC, SCP, declarants, blocks, withIDREC, belowSCP, isBeneficiary, kinds-opens}
 use Rattle.dirf.specs.Below.{underDECPF, underDECPJ, below2025}
 use Rattle.dirf.specs.Edition.{edition2025, edition-opens}
-use Rattle.dirf.specs.Lines.{lines-opens}
-use Rattle.dirf.specs.Numbers.{numbers-opens}
-use Rattle.dirf.specs.Fields.{fields-opens}
-use Rattle.dirf.specs.Conditions.{conditions-opens}
-use Rattle.dirf.specs.Rules.{rules-opens}
 use Rattle.dirf.specs.Tree.{opening, mayStand}
-use Rattle.dirf.specs.Keys.{keys-opens}
-use Rattle.dirf.specs.Order.{line-opens}
 use Rattle.dirf.specs.Theorems.Plain.{_∈_}
 use Rattle.dirf.specs.Theorems.Sound.{level, Nested, rising, Closable, Sound}
 use Rattle.dirf.proofs.Bools.{or-cases, if-cases}
@@ -77,8 +71,8 @@ ordered2025 d h other =
     (below-says (λ h ks. rising ks || isBeneficiary h) (λ h. refl) refl refl d h))
 
 closable2025 : Closable edition2025
-unfolding bytes-opens kinds-opens edition-opens lines-opens numbers-opens fields-opens conditions-opens rules-opens keys-opens line-opens
-    mayStand opening
+unfolding bytes-opens kinds-opens edition-opens specs.Lines.lines-opens specs.Numbers.numbers-opens specs.Fields.fields-opens
+    specs.Conditions.conditions-opens specs.Rules.rules-opens specs.Keys.keys-opens specs.Order.line-opens mayStand opening
 closable2025 =
     record {
       line1 = bytes "Dirf|2025|2024|N||R6GP3ZA|";
