@@ -1,32 +1,17 @@
--- The first bar of a text, a byte at a time, and a line cut there: its first field, and the fields behind the bar.
+-- A line cut at its first bar: its first field, and the fields behind the bar.
 use Prim.Native.Nat.{ℕ, suc, _+_, _-_, _≤_, _<_}
 use mathlib.Core.Path.{_≡_, refl, ap}
 use mathlib.Core.Logic.{⊎-elim}
 use mathlib.Core.List.{[], _∷_}
-use native.Mathlib.Numerals.{add-one}
 use native.Mathlib.Omega.{arith}
 use lib.Dec.{eqb}
-use lib.ListN.{length, getD, take, drop, length-drop, drop-of-length-le}
-use lib.Seq.{drop-cons, drop-drop}
-use borrow.Author.Tests.{eq-eqb, ne-eqb}
+use lib.ListN.{length, take, drop, length-drop}
+use lib.Seq.{drop-drop}
 use Rattle.dirf.specs.Bytes.{Text}
 use Rattle.dirf.specs.Limits.{bar}
 use Rattle.dirf.specs.Lines.{more, fields}
 use Rattle.dirf.proofs.Bools.{true-or-false}
 use Rattle.fields.specs.Places.{partOf, barIn}
-
-module _ (s : Text) (i : ℕ) where
-  pub bar-here : getD s i 0 ≡ bar → i < length s → barIn (drop i s) ≡ 0
-  unfolding barIn
-  bar-here e h = rw (drop-cons s i 0, eq-eqb (getD s i 0) bar e)
-
-  pub bar-past : (getD s i 0 ≡ bar → ⊥) → i < length s → barIn (drop i s) ≡ suc (barIn (drop (i + 1) s))
-  unfolding barIn
-  bar-past e h = rw (add-one, drop-cons s i 0, ne-eqb (getD s i 0) bar e, barIn)
-
-  pub bar-end : length s ≤ i → barIn (drop i s) ≡ 0
-  unfolding barIn
-  bar-end h = rw (drop-of-length-le s h)
 
 no-field : (s : Text) → length s ≤ barIn s → fields s ≡ []
 unfolding barIn fields more

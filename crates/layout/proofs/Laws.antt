@@ -141,7 +141,9 @@ module _ (e : Edition) (l : LaidOut e) where
         (λ a.
         by-kind k
         (λ b. rw (lt-ltb h holders a, lt-ltb k kinds b) (yes-there a b))
-        (λ b. simp (le-ltb k kinds b, and-false, isIn-past kinds k b (lookup [] (e .below d) h) (in-table (λ h. every isKind) [] (λ h. refl) (e .below d) (l .held d) h))))
+        (λ b.
+        let all = in-table (λ h. every isKind) [] (λ h. refl) (e .below d) (l .held d) h in
+        simp (le-ltb k kinds b, and-false, isIn-past kinds k b (lookup [] (e .below d) h) all)))
         (λ a. rw (le-ltb h holders a, lookup-past holders h a [] (e .below d) (l .holds d)))
 
   pub says-below : (d : ℕ) → SayBelow e d (belowTable e d)

@@ -1,26 +1,14 @@
--- A test of every byte: a byte at a time, and of a part.
-use Prim.Native.Nat.{ℕ, _+_, _≤_, _<_}
+-- A test of every byte: of one byte, and of a part.
+use Prim.Native.Nat.{ℕ, _<_}
 use mathlib.Core.Path.{_≡_, sym, ap, _∙_}
-use mathlib.Core.Bool.{Bool, true, false}
-use lib.ListN.{length, getD, take, drop, drop-of-length-le, take-append-drop}
+use mathlib.Core.Bool.{Bool, true}
+use lib.ListN.{length, getD, take, drop, take-append-drop}
 use Rattle.dirf.specs.Bytes.{Text, every}
 use Rattle.dirf.proofs.Bools.{and-left, and-right}
 use Rattle.dirf.proofs.Lists.{drop-on, every-append}
 use Rattle.fields.specs.Places.{partOf}
 
 module _ (test : ℕ → Bool) (s : Text) (i : ℕ) where
-  pub every-on : i < length s → test (getD s i 0) ≡ true → every test (drop i s) ≡ every test (drop (i + 1) s)
-  unfolding every
-  every-on h e = rw (drop-on s i 0, e, every)
-
-  pub every-off : i < length s → test (getD s i 0) ≡ false → every test (drop i s) ≡ false
-  unfolding every
-  every-off h e = rw (drop-on s i 0, e, every)
-
-  pub every-end : length s ≤ i → every test (drop i s) ≡ true
-  unfolding every
-  every-end h = rw (drop-of-length-le s h)
-
   every-cut : every test s ≡ true → (every test (take i s) ≡ true) × (every test (drop i s) ≡ true)
   every-cut e =
       let h = sym (every-append test (take i s) (drop i s)) ∙ ap (every test) (take-append-drop i s) ∙ e in

@@ -1,10 +1,12 @@
 -- The first bar from `from` on is the first from byte i on: none has been passed.
-use Prim.Native.Nat.{_≤_, _+_, _-_}
-use mathlib.Core.Path.{_≡_}
+use Prim.Native.Nat.{suc, _≤_, _+_, _-_}
+use mathlib.Core.Path.{_≡_, ap}
 use native.Mathlib.Omega.{arith}
-use lib.ListN.{length, drop}
+use lib.ListN.{length, drop, drop-of-length-le}
+use borrow.Author.Tests.{eq-eqb, ne-eqb}
 use Rattle.fields.specs.Places.{barIn}
-use Rattle.fields.proofs.Bars.{bar-here, bar-past, bar-end}
+use Rattle.dirf.specs.Limits.{bar}
+use Rattle.dirf.proofs.Lists.{drop-on}
 use Rattle.fields.proofs.bar_from.Statement.{statement}
 use Rattle.fields.proofs.bar_from.Tie as tie
 
@@ -15,6 +17,7 @@ abbrev μ-loop : tie.MeasureT-loop
 μ-loop line from i₀ i = length line - i
 
 pub bar-from-spec : {M : Type 1} → statement M
+unfolding barIn
 bar-from-spec =
     tie.close
     (tie.spec
@@ -24,12 +27,17 @@ bar-from-spec =
     (λ c. omega arith)
     (λ c.
     let l = c .before .before .before in
-    omega (arith, bar-here (l .before .args .line .now) (l .loop .i) (c .if1 .taken) (omega arith)))
+    let s = l .before .args .line .now in
+    let e : barIn (drop (l .loop .i) s) ≡ 0 = rw (drop-on s (l .loop .i) 0 (omega arith), eq-eqb _ bar (c .if1 .taken)) in
+    omega arith)
     (λ c. omega arith)
     (λ c. omega arith)
     (λ c.
     let l = c .before .before .before in
-    omega (arith, bar-past (l .before .args .line .now) (l .loop .i) (c .if1 .left) (omega arith)))
+    let s = l .before .args .line .now in
+    let e : barIn (drop (l .loop .i) s) ≡ suc (barIn (drop (l .loop .i + 1) s)) =
+    rw (drop-on s (l .loop .i) 0 (omega arith), ne-eqb _ bar (c .if1 .left)) in
+    omega arith)
     (λ c.
     let l = c .before in
-    omega (arith, bar-end (l .before .args .line .now) (l .loop .i) (omega arith))))
+    omega (arith, ap barIn (drop-of-length-le (l .before .args .line .now) (c .loop-test .left)))))
