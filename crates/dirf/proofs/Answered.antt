@@ -2,8 +2,8 @@
 -- else of that form is the verdict.
 use Prim.Native.Nat.{ℕ, _≤_}
 use mathlib.Core.Path.{_≡_, refl, sym, ap, _∙_, subst}
-use mathlib.Core.Bool.{Bool, true, false}
-use mathlib.Core.Logic.{_↔_}
+use mathlib.Core.Bool.{true}
+use mathlib.Core.Logic.{_↔_, ⊎-elim}
 use mathlib.Core.List.{List, []}
 use lib.Dec.{leb}
 use borrow.Author.Tests.{leb-true}
@@ -20,10 +20,11 @@ use Rattle.dirf.specs.Check.{Verdict, refused, accepted, noBytesLeft, ve
 use Rattle.dirf.specs.Theorems.Sound.{Sound}
 use Rattle.dirf.specs.Theorems.Answered.{recs, Right, LinesRight, Closed, Accepted, FirstBroken, Answer, accepts, unclosed, refuses}
 use Rattle.dirf.specs.Theorems.Answered.{Answered, Only, AcceptedExactly}
+use Rattle.dirf.proofs.Bools.{true-or-false}
 use Rattle.dirf.proofs.Says.{denies}
 use Rattle.dirf.proofs.Lists.{every-in}
-use Rattle.dirf.proofs.Asked.{numbersPass}
-use Rattle.dirf.proofs.Given.{given-number, none-given}
+use Rattle.dirf.proofs.Asked.{numbersPass, given-number}
+use Rattle.dirf.proofs.Given.{none-given}
 use Rattle.dirf.proofs.RuleLaws.{broken-given}
 use Rattle.dirf.proofs.TestsSay.{tests-say, closed-says}
 use Rattle.dirf.proofs.RunLaws.{Kept, Fate, passes, stops, fate, kept-verdict, stops-verdict, kept-at, at-kept}
@@ -44,7 +45,8 @@ open-ends before c = rw (denies (closed before) (closed-says before) .1 c)
 
 module _ (e : Edition) (sound : Sound e) where
   -- a line keeps every rule of the list exactly when it breaks none of the table
-  pub right-exactly : (room : ℕ) (before : List Rec) (p : Piece) → (first order (here e room before p) ≡ keeps) ↔ Right (here e room before p)
+  pub right-exactly : (room : ℕ) (before : List Rec) (p : Piece)
+      → (first order (here e room before p) ≡ keeps) ↔ Right (here e room before p)
   right-exactly room before p =
       let h = here e room before p in (
         λ k n f b. let g = tests-say e sound room before p n f .0 b in none-given order h .0 k n f (g .0) (g .1) (g .2),
@@ -53,34 +55,35 @@ module _ (e : Edition) (sound : Sound e) where
 
   pub lines-right : (room : ℕ) (ps : List Piece) → Kept e room [] ps ↔ LinesRight e room ps
   lines-right room ps = (
-    λ k os p qs s. right-exactly room (recs e [] os) p .0 (kept-at e room [] ps k os p qs s),
+    λ k os p qs s. right-exactly room (recs e [] os) p .0 (kept-at e room [] os p qs (subst (Kept e room []) s k)),
     λ l. at-kept e room [] ps (λ os p qs s. right-exactly room (recs e [] os) p .1 (l os p qs s)),
   )
 
   -- what is named first has a number that is neither 0 nor 1
   pub broken-number : (room : ℕ) (before : List Rec) (p : Piece) (n f : ℕ) → FirstBroken (here e room before p) n f order → 2 ≤ n
-  broken-number room before p n f b = let g = broken-given b in leb-true 2 n (given-number (leb 2) (g .2) (every-in (numbersPass (leb 2)) (g .1) order-big))
+  broken-number room before p n f b =
+      let g = broken-given b in
+      leb-true 2 n (given-number (leb 2) (g .2) (every-in (numbersPass (leb 2)) (g .1) order-big))
 
   pub answered : Answered e
   answered file room = go (fate e room [] (pieces file))
     where
-      all : List Rec
-      all = recs e [] (pieces file)
-
-      ending : (t : Bool) → closed all ≡ t → LinesRight e room (pieces file) → Answer e file room (noBytesLeft all)
-      ending true q l = let c = closed-says all .0 q in subst (Answer e file room) (sym (shut-ends all c)) (accepts (record { lines = l; shut = c }))
-      ending false q l =
-          let c = denies (closed all) (closed-says all) .0 q in subst (Answer e file room) (sym (open-ends all c)) (unclosed l c)
-
       go : Fate e room [] (pieces file) → Answer e file room (verdict e file room)
-      go (passes k) = subst (Answer e file room) (sym (kept-verdict e room file k)) (ending (closed all) refl (lines-right room (pieces file) .0 k))
+      go (passes k) =
+          let all = recs e [] (pieces file) in
+          let l = lines-right room (pieces file) .0 k in
+          rw (kept-verdict e room file k)
+          (⊎-elim (λ q. let c = closed-says all .0 q in rw (shut-ends all c) (accepts (record { lines = l; shut = c })))
+          (λ q. let c = denies (closed all) (closed-says all) .0 q in rw (open-ends all c) (unclosed l c))
+          (true-or-false (closed all)))
       go (stops os p qs n f s k b) =
-          subst (Answer e file room) (sym (stops-verdict e room file os p qs n f s k b)) (refuses os p qs n f s (lines-right room os .0 k) b)
+          rw (stops-verdict e room file os p qs n f s k b) (refuses os p qs n f s (lines-right room os .0 k) b)
 
   pub only : Only e
   only file room v (accepts a) =
       sym (kept-verdict e room file (lines-right room (pieces file) .1 (a .lines)) ∙ shut-ends (recs e [] (pieces file)) (a .shut))
-  only file room v (unclosed l c) = sym (kept-verdict e room file (lines-right room (pieces file) .1 l) ∙ open-ends (recs e [] (pieces file)) c)
+  only file room v (unclosed l c) =
+      sym (kept-verdict e room file (lines-right room (pieces file) .1 l) ∙ open-ends (recs e [] (pieces file)) c)
   only file room v (refuses os p qs n f s l b) = sym (stops-verdict e room file os p qs n f s (lines-right room os .1 l) b)
 
   -- number 0, by the one answer there is

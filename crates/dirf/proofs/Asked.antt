@@ -1,19 +1,31 @@
 -- What a list of rules finds, told by its rules one by one.
-use Prim.Native.Nat.{ℕ, suc}
-use mathlib.Core.Path.{_≡_, refl, ap, _∙_}
+use Prim.Native.Nat.{ℕ, suc, _+_}
+use mathlib.Core.Path.{_≡_, refl, sym, ap, _∙_, subst}
 use mathlib.Core.Bool.{Bool, true, false, _&&_}
+use mathlib.Core.Logic.{_⊎_, inl, inr, ⊎-elim}
 use mathlib.Core.List.{List, [], _∷_, List·Memᴰ·head, List·Memᴰ·tail}
 use native.Mathlib.Omega.{arith}
 use lib.Dec.{eqb, ltb}
-use borrow.Author.Tests.{ltb-true}
+use borrow.Author.Tests.{eqb-true, ltb-true}
 use Rattle.dirf.specs.Bytes.{Text, every}
 use Rattle.dirf.specs.Row.{Row}
 use Rattle.dirf.specs.Fields.{FieldTest, FieldRule}
 use Rattle.dirf.specs.Conditions.{Condition}
-use Rattle.dirf.specs.Rules.{Found, keeps, breaks, given, orElse, Rule, gives, fieldByField, conditions}
-use Rattle.dirf.specs.Rules.{askField, askFields, askConditions, ask, first}
-use Rattle.dirf.specs.Theorems.Plain.{_∈_}
+use Rattle.dirf.specs.Rules.{Found, keeps, breaks, given, orElse, Rule, gives, fieldByField, conditions, askField, askFields}
+use Rattle.dirf.specs.Rules.{askConditions, ask, first}
+use Rattle.dirf.specs.Theorems.Plain.{_∈_, Nth, this, next}
+use Rattle.dirf.specs.Theorems.Answered.{Given, by-test, by-field, by-condition}
+use Rattle.dirf.proofs.Bools.{and-left, and-right}
+use Rattle.dirf.proofs.Says.{it, on}
 use Rattle.dirf.proofs.Lists.{every-in}
+
+pub keeps≢breaks : {n f : ℕ} → keeps ≡ breaks n f → ⊥
+keeps≢breaks e = let z : _≡_ {A = ℕ} 0 1 = cc in omega arith
+
+-- what is found is nothing, or a breach
+pub found-cases : (x : Found) → (x ≡ keeps) ⊎ ((n : ℕ) × (f : ℕ) × (x ≡ breaks n f))
+found-cases keeps = inl refl
+found-cases (breaks n f) = inr (n, f, refl)
 
 pub given-false : (n f : ℕ) (b : Bool) → given n f b ≡ keeps → b ≡ false
 unfolding given
@@ -23,6 +35,11 @@ given-false n f false e = refl
 pub given-keeps : (n f : ℕ) {b : Bool} → b ≡ false → given n f b ≡ keeps
 unfolding given
 given-keeps n f e = rw e
+
+given-breaks : (m g : ℕ) (b : Bool) {n f : ℕ} → given m g b ≡ breaks n f → (m ≡ n) × (g ≡ f) × (b ≡ true)
+unfolding given
+given-breaks m g true e = (cc, cc, refl)
+given-breaks m g false e = absurd (keeps≢breaks e)
 
 pub or-else-left : (a b : Found) → orElse a b ≡ keeps → a ≡ keeps
 unfolding orElse
@@ -34,15 +51,10 @@ unfolding orElse
 or-else-right keeps b e = e
 or-else-right (breaks n f) b e = cc
 
--- what is found, if anything, has a number that passes a test
-abbrev pub Passes : (ℕ → Bool) → Found → Type 0
-Passes test keeps = Unit {0}
-Passes test (breaks n f) = test n ≡ true
-
-pub or-else-passes : (test : ℕ → Bool) (a b : Found) → Passes test a → Passes test b → Passes test (orElse a b)
+or-breaks : (a b : Found) {n f : ℕ} → orElse a b ≡ breaks n f → (a ≡ breaks n f) ⊎ (b ≡ breaks n f)
 unfolding orElse
-or-else-passes test keeps b p q = q
-or-else-passes test (breaks n f) b p q = p
+or-breaks keeps b e = inr e
+or-breaks (breaks n f) b e = inl e
 
 -- the elements of a list are tried in order: `one` of an element, `all` of the list
 pub record Tries {X : Type 0} (one : X → Found) (all : List X → Found) : Type 0 where
@@ -57,13 +69,13 @@ module _ {X : Type 0} (one : X → Found) (all : List X → Found) (t : Tries on
   pub all-kept : (xs : List X) → ((x : X) → x ∈ xs → one x ≡ keeps) → all xs ≡ keeps
   unfolding orElse
   all-kept [] h = t .nothing
-  all-kept (x ∷ xs) h = rw (t .further x xs, h x (List·Memᴰ·head refl)) (all-kept xs (λ y m. h y (List·Memᴰ·tail m)))
+  all-kept (x ∷ xs) h = rw (t .further x xs, h x it) (all-kept xs (λ y m. h y (on m)))
 
-  pub all-pass : (test : ℕ → Bool) (xs : List X) → ((x : X) → x ∈ xs → Passes test (one x)) → Passes test (all xs)
-  all-pass test [] h = rw (t .nothing) tt
-  all-pass test (x ∷ xs) h =
-      rw (t .further x xs)
-      (or-else-passes test (one x) (all xs) (h x (List·Memᴰ·head refl)) (all-pass test xs (λ y m. h y (List·Memᴰ·tail m))))
+  pub one-breaks : (xs : List X) {n f : ℕ} → all xs ≡ breaks n f → (x : X) × (x ∈ xs) × (one x ≡ breaks n f)
+  one-breaks [] e = absurd (keeps≢breaks (sym (t .nothing) ∙ e))
+  one-breaks (x ∷ xs) e =
+      ⊎-elim (λ q. (x, it, q)) (λ q. let h = one-breaks xs q in (h .0, on (h .1), h .2))
+      (or-breaks (one x) (all xs) (rw (t .further) at e))
 
 pub first-tries : {A : Type 0} (a : A) → Tries (λ (r : Rule A). ask r a) (λ rs. first rs a)
 unfolding first
@@ -85,12 +97,51 @@ unfolding ask
 rule-kept n f t a m e = given-false n f (t a) (one-kept _ _ (first-tries a) m e)
 
 module _ (f : ℕ) (name : Text) (r : Row) (s : Text) where
-  pub field-kept : (n : ℕ) (test : FieldTest) {xs : List FieldRule} → (n, test) ∈ xs → askField f xs name r s ≡ keeps → test name r s ≡ false
+  pub field-kept : (n : ℕ) (test : FieldTest) {xs : List FieldRule} → (n, test) ∈ xs → askField f xs name r s ≡ keeps
+      → test name r s ≡ false
   field-kept n test m e = given-false n f (test name r s) (one-kept _ _ (field-tries f name r s) m e)
 
   pub keeps-field : (xs : List FieldRule) → ((x : FieldRule) → x ∈ xs → x .1 name r s ≡ false) → askField f xs name r s ≡ keeps
   unfolding given
   keeps-field xs h = all-kept _ _ (field-tries f name r s) xs (λ x m. rw (h x m))
+
+  -- one field: the rule that it breaks
+  field-breaks : (xs : List FieldRule) {n g : ℕ} → askField f xs name r s ≡ breaks n g
+      → (x : FieldRule) × (x ∈ xs) × (x .0 ≡ n) × (f ≡ g) × (x .1 name r s ≡ true)
+  field-breaks xs e =
+      let h = one-breaks _ _ (field-tries f name r s) xs e in
+      let g = given-breaks (h .0 .0) f (h .0 .1 name r s) (h .2) in
+      (h .0, h .1, g .0, g .1, g .2)
+
+-- all fields of a record, from field f on: the row and the text, i places on, that break a rule
+fields-break : {P : Type 0} {n g : ℕ} (xs : List FieldRule) (name : Text) (f : ℕ) (rs : List Row) (cs : List Text)
+    → askFields f xs name rs cs ≡ breaks n g
+    → ((i : ℕ) (r : Row) (s : Text) (x : FieldRule) → suc g ≡ f + i → Nth rs i r → Nth cs i s
+    → x ∈ xs → x .0 ≡ n → x .1 name r s ≡ true → P)
+    → P
+unfolding askFields
+fields-break xs name f [] cs e k = absurd (keeps≢breaks e)
+fields-break xs name f (r ∷ rs) [] e k = absurd (keeps≢breaks e)
+fields-break xs name f (r ∷ rs) (c ∷ cs) e k =
+    ⊎-elim
+    (λ q. let h = field-breaks f name r c xs q in k 1 r c (h .0) (omega (arith, h .3)) this this (h .1) (h .2) (h .4))
+    (λ q. fields-break xs name (suc f) rs cs q (λ i r s x p a b m n t. k (suc i) r s x (omega arith) (next a) (next b) m n t))
+    (or-breaks (askField f xs name r c) (askFields (suc f) xs name rs cs) e)
+
+-- what a rule finds is given by its own test
+pub ask-breaks : {A : Type 0} (r : Rule A) (a : A) {n f : ℕ} → ask r a ≡ breaks n f → Given a n f r
+unfolding ask
+ask-breaks (gives m g test) a e = let h = given-breaks m g (test a) e in by-test (h .0) (h .1) (h .2)
+ask-breaks (fieldByField xs of) a {f = f} e =
+    fields-break xs (of a .name) 1 (of a .rows) (of a .cells) e
+    (λ i r s x p j l m q t.
+    let here : i ≡ f = omega arith in
+    by-field x r s m q (subst (λ i. Nth (of a .rows) i r) here j) (subst (λ i. Nth (of a .cells) i s) here l) t)
+ask-breaks (conditions m xs of) a e =
+    let h = one-breaks _ _ (condition-tries m (of a .kind) (of a .cells)) xs e in
+    let kind = eqb (of a .kind) (h .0 .kind) in
+    let g = given-breaks m (h .0 .field) (kind && h .0 .broken (of a .cells)) (h .2) in
+    by-condition (h .0) (g .0) (h .1) (g .1) (eqb-true _ _ (and-left kind _ (g .2))) (and-right kind _ (g .2))
 
 -- every number that a rule can give passes a test
 abbrev pub numbersPass : {A : Type 0} → (ℕ → Bool) → Rule A → Bool
@@ -98,36 +149,42 @@ numbersPass test (gives n f t) = test n
 numbersPass test (fieldByField xs of) = every (λ x. test (x .0)) xs
 numbersPass test (conditions n xs of) = test n
 
+-- what is found, if anything, has a number that passes a test
+abbrev pub Passes : (ℕ → Bool) → Found → Type 0
+Passes test keeps = Unit {0}
+Passes test (breaks n f) = test n ≡ true
+
 module _ (test : ℕ → Bool) where
-  given-passes : (n f : ℕ) (b : Bool) → test n ≡ true → Passes test (given n f b)
-  unfolding given
-  given-passes n f true e = e
-  given-passes n f false e = tt
+  pub or-else-passes : (a b : Found) → Passes test a → Passes test b → Passes test (orElse a b)
+  unfolding orElse
+  or-else-passes keeps b p q = q
+  or-else-passes (breaks n f) b p q = p
+
+  found-passes : (x : Found) → ((n f : ℕ) → x ≡ breaks n f → test n ≡ true) → Passes test x
+  found-passes keeps h = tt
+  found-passes (breaks n f) h = h n f refl
+
+  -- the number that a rule gives is one of its own
+  pub given-number : {A : Type 0} {a : A} {n f : ℕ} {r : Rule A} → Given a n f r → numbersPass test r ≡ true → test n ≡ true
+  given-number (by-test p q t) e = rw (← p) e
+  given-number (by-field x r s m p i j t) e = rw (← p) (every-in (λ y. test (y .0)) m e)
+  given-number (by-condition x q m p k t) e = rw (← q) e
 
   pub field-passes : (f : ℕ) (xs : List FieldRule) (name : Text) (r : Row) (s : Text) → every (λ x. test (x .0)) xs ≡ true
       → Passes test (askField f xs name r s)
   field-passes f xs name r s e =
-      all-pass _ _ (field-tries f name r s) test xs (λ x m. given-passes (x .0) f (x .1 name r s) (every-in (λ y. test (y .0)) m e))
-
-  pub fields-pass : (f : ℕ) (xs : List FieldRule) (name : Text) (rs : List Row) (cs : List Text) → every (λ x. test (x .0)) xs ≡ true
-      → Passes test (askFields f xs name rs cs)
-  unfolding askFields
-  fields-pass f xs name [] cs e = tt
-  fields-pass f xs name (r ∷ rs) [] e = tt
-  fields-pass f xs name (r ∷ rs) (c ∷ cs) e =
-      or-else-passes test (askField f xs name r c) (askFields (suc f) xs name rs cs)
-      (field-passes f xs name r c e) (fields-pass (suc f) xs name rs cs e)
+      found-passes (askField f xs name r s)
+      (λ n g q. let h = field-breaks f name r s xs q in rw (← h .2) (every-in (λ y. test (y .0)) (h .1) e))
 
   pub ask-passes : {A : Type 0} (r : Rule A) (a : A) → numbersPass test r ≡ true → Passes test (ask r a)
-  unfolding ask
-  ask-passes (gives n f t) a e = given-passes n f (t a) e
-  ask-passes (fieldByField xs of) a e = fields-pass 1 xs (of a .name) (of a .rows) (of a .cells) e
-  ask-passes (conditions n xs of) a e =
-      all-pass _ _ (condition-tries n (of a .kind) (of a .cells)) test xs
-      (λ x m. given-passes n (x .field) (eqb (of a .kind) (x .kind) && x .broken (of a .cells)) e)
+  ask-passes r a e = found-passes (ask r a) (λ n f q. given-number (ask-breaks r a q) e)
 
   pub first-passes : {A : Type 0} (rs : List (Rule A)) (a : A) → every (numbersPass test) rs ≡ true → Passes test (first rs a)
-  first-passes rs a e = all-pass _ _ (first-tries a) test rs (λ r m. ask-passes r a (every-in (numbersPass test) m e))
+  first-passes rs a e =
+      found-passes (first rs a)
+      (λ n f q.
+      let h = one-breaks _ _ (first-tries a) rs q in
+      given-number (ask-breaks (h .0) a (h .2)) (every-in (numbersPass test) (h .1) e))
 
 -- where no rule has number 0, an answer with number 0 has found nothing
 pub nothing-found : (numberOf : Found → ℕ) → ((n f : ℕ) → numberOf (breaks n f) ≡ n) → (found : Found) → Passes (ltb 0) found

@@ -2,9 +2,9 @@
 use Prim.Native.Nat.{ℕ}
 use mathlib.Core.Path.{_≡_, refl, sym, ap, _∙_}
 use mathlib.Core.Bool.{Bool, true, false, true≢false}
-use mathlib.Core.Logic.{_⊎_, inl, inr, ⊎-elim, _≢_}
-use mathlib.Core.List.{List, [], _∷_, _++_, append-assoc, append-nil, List·Memᴰ·head, List·Memᴰ·tail}
-use mathlib.Core.List.{List·Memᴰ·not-nil, List·Memᴰ·cases-cons, List·Memᴰ·append-cases}
+use mathlib.Core.Logic.{⊎-elim}
+use mathlib.Core.List.{List, [], _∷_, _++_, append-assoc, append-nil, List·Memᴰ·head, List·Memᴰ·tail, List·Memᴰ·not-nil}
+use mathlib.Core.List.{List·Memᴰ·cases-cons, List·Memᴰ·append-cases}
 use native.Mathlib.Omega.{arith}
 use lib.Dec.{eqb}
 use lib.ListN.{length, length-append}
@@ -89,8 +89,6 @@ fields-joined (_also_ {x = c} {xs = cs} h hs) = field-joined c (joined cs) h ∙
 pub joined-clean : {cs : List Text} → Each Cell cs → NoLineEnd (joined cs)
 unfolding joined
 joined-clean none b m = absurd (List·Memᴰ·not-nil m)
-joined-clean (_also_ {x = c} {xs = cs} h hs) b m = go (joined-clean hs b) (List·Memᴰ·append-cases c m)
-  where
-    go : (b ∈ joined cs → (b ≢ 13) × (b ≢ 10)) → (b ∈ c) ⊎ (b ∈ (bar ∷ joined cs)) → (b ≢ 13) × (b ≢ 10)
-    go on (inl i) = (h b i .1, h b i .2)
-    go on (inr i) = ⊎-elim (λ (e : b ≡ bar). omega arith) on (List·Memᴰ·cases-cons i)
+joined-clean (_also_ {x = c} {xs = cs} h hs) b m =
+    ⊎-elim (λ i. (h b i .1, h b i .2))
+    (λ i. ⊎-elim (λ (e : b ≡ bar). omega arith) (joined-clean hs b) (List·Memᴰ·cases-cons i)) (List·Memᴰ·append-cases c m)

@@ -1,64 +1,55 @@
 -- What is known of a kind of the base, in a sound edition.
 use Prim.Native.Nat.{ℕ, _≤_}
 use mathlib.Core.Path.{_≡_, refl, sym, ap, _∙_}
-use mathlib.Core.Bool.{Bool, true, false, _||_, not, or-true, false≢true, true≢false}
-use mathlib.Core.List.{List, [], _∷_, map, Memᴰ·cast}
+use mathlib.Core.Bool.{true, false, not, or-true, false≢true, true≢false}
+use mathlib.Core.Logic.{⊎-elim}
+use mathlib.Core.List.{List, [], _∷_, map, Memᴰ·cast, Memᴰ·map}
 use native.Mathlib.Omega.{arith}
 use lib.Dec.{eqb, leb}
 use lib.ListN.{length}
 use borrow.Author.Tests.{eqb-true, eq-eqb, leb-true, not-true}
-use Rattle.dirf.specs.Bytes.{if_then_else_, Text, some, same, isIn, lookup}
+use Rattle.dirf.specs.Bytes.{Text, some, same, isIn, lookup}
 use Rattle.dirf.specs.Kinds.{isLater}
 use Rattle.dirf.specs.Row.{Row, obligatory, identifier}
 use Rattle.dirf.specs.Edition.{Edition, kindIn, kindOf, nameOf, rowsIn, rowsOf, isBase}
 use Rattle.dirf.specs.Theorems.Plain.{_∈_}
 use Rattle.dirf.specs.Theorems.Sound.{firstOf, Sound}
-use Rattle.dirf.proofs.Bools.{and-left, and-right}
+use Rattle.dirf.proofs.Bools.{and-left, and-right, if-cases, true-or-false}
 use Rattle.dirf.proofs.Says.{it, on}
-use Rattle.dirf.proofs.Lists.{every-in, some-in, in-map}
+use Rattle.dirf.proofs.Lists.{every-in}
 
 -- a kind other than 0 that an identifier names, and that is not left for later, is of the base
 named-in : (ns : List (ℕ × Text)) (s : Text) → eqb (kindIn ns s) 0 ≡ false → some (λ n. eqb (kindIn ns s) (n .0)) ns ≡ true
 unfolding kindIn some
 named-in [] s e = absurd (true≢false e)
-named-in (n ∷ ns) s e = go (same (n .1) s) e (named-in ns s)
-  where
-    go : (t : Bool) → eqb (if t then n .0 else kindIn ns s) 0 ≡ false
-        → (eqb (kindIn ns s) 0 ≡ false → some (λ m. eqb (kindIn ns s) (m .0)) ns ≡ true)
-        → some (λ m. eqb (if t then n .0 else kindIn ns s) (m .0)) (n ∷ ns) ≡ true
-    go true e on = rw (eq-eqb (n .0) (n .0) refl)
-    go false e on = rw (on e) (or-true (eqb (kindIn ns s) (n .0)))
+named-in (n ∷ ns) s e =
+    if-cases (λ k. some (λ m. eqb k (m .0)) (n ∷ ns) ≡ true) (same (n .1) s) (λ q. rw (eq-eqb (n .0) (n .0) refl))
+    (λ q. rw (named-in ns s (rw q at e)) (or-true (eqb (kindIn ns s) (n .0))))
 
 pub named-base : (e : Edition) (s : Text) → eqb (kindOf e s) 0 ≡ false → isLater (kindOf e s) ≡ false → isBase e (kindOf e s) ≡ true
 unfolding kindOf isBase
 named-base e s p q = rw (named-in (e .names) s p, q)
 
-lookup-in : (ns : List (ℕ × Text)) (k : ℕ) → some (λ n. eqb k (n .0)) ns ≡ true → (n : ℕ × Text) × (n ∈ ns) × (k ≡ n .0) × (lookup [] ns k ≡ n .1)
+lookup-in : (ns : List (ℕ × Text)) (k : ℕ) → some (λ n. eqb k (n .0)) ns ≡ true
+    → (n : ℕ × Text) × (n ∈ ns) × (k ≡ n .0) × (lookup [] ns k ≡ n .1)
 unfolding some lookup
 lookup-in [] k e = absurd (true≢false (sym e))
-lookup-in (x ∷ ns) k e = go (eqb k (x .0)) refl e (lookup-in ns k)
-  where
-    go : (t : Bool) → eqb k (x .0) ≡ t → (t || some (λ n. eqb k (n .0)) ns) ≡ true
-        → (some (λ n. eqb k (n .0)) ns ≡ true → (n : ℕ × Text) × (n ∈ ns) × (k ≡ n .0) × (lookup [] ns k ≡ n .1))
-        → (n : ℕ × Text) × (n ∈ (x ∷ ns)) × (k ≡ n .0) × ((if t then x .1 else lookup [] ns k) ≡ n .1)
-    go true q e on′ = (x, it, eqb-true k (x .0) q, refl)
-    go false q e on′ = let h = on′ e in (h .0, on (h .1), h .2, h .3)
+lookup-in (x ∷ ns) k e =
+    ⊎-elim (λ q. (x, it, eqb-true k (x .0) q, rw q))
+    (λ q. let h = lookup-in ns k (rw q at e) in (h .0, on (h .1), h .2, rw q (h .3))) (true-or-false (eqb k (x .0)))
 
 module _ (e : Edition) (k : ℕ) (base : isBase e k ≡ true) where
   pub base-not-later : isLater k ≡ false
   unfolding isBase
   base-not-later = not-true (isLater k) (and-right (some (λ n. eqb k (n .0)) (e .names)) (not (isLater k)) base)
 
-  pub base-name : (n : ℕ × Text) × (n ∈ e .names) × (k ≡ n .0)
-  unfolding isBase
-  base-name =
-      let i = some-in (λ (n : ℕ × Text). eqb k (n .0)) (e .names) (and-left _ (not (isLater k)) base) in
-      (i .0, i .1, eqb-true k (i .0 .0) (i .2))
+  pub base-name : (n : ℕ × Text) × (n ∈ e .names) × (k ≡ n .0) × (nameOf e k ≡ n .1)
+  unfolding isBase nameOf
+  base-name = lookup-in (e .names) k (and-left _ (not (isLater k)) base)
 
   pub base-named : Sound e → kindOf e (nameOf e k) ≡ k
-  unfolding isBase nameOf
   base-named sound =
-      let h = lookup-in (e .names) k (and-left _ (not (isLater k)) base) in
+      let h = base-name in
       ap (kindOf e) (h .3) ∙ eqb-true (kindOf e (h .0 .1)) (h .0 .0) (every-in _ (h .1) (sound .kinds .named)) ∙ sym (h .2)
 
   pub base-not-zero : Sound e → eqb k 0 ≡ false
@@ -66,27 +57,16 @@ module _ (e : Edition) (k : ℕ) (base : isBase e k ≡ true) where
 
   pub base-laid-out : Sound e → 1 ≤ length (rowsOf e k)
   base-laid-out sound =
-      go (leb 1 (length (rowsOf e k))) refl
-      (rw base at (every-in laidOut (Memᴰ·cast (base-name .2) (in-map (λ n. n .0) (base-name .1))) (sound .kinds .laidOut)))
-    where
-      laidOut : ℕ → Bool
-      laidOut k = eqb (if isBase e k then 1 else 0) (if leb 1 (length (rowsOf e k)) then 1 else 0)
-
-      go : (t : Bool) → leb 1 (length (rowsOf e k)) ≡ t → eqb 1 (if t then 1 else 0) ≡ true → 1 ≤ length (rowsOf e k)
-      go true p q = leb-true 1 (length (rowsOf e k)) p
-      go false p q = absurd (false≢true q)
+      let laid = every-in _ (Memᴰ·cast (base-name .2) (Memᴰ·map (λ n. n .0) (base-name .1))) (sound .kinds .laidOut) in
+      ⊎-elim (λ p. leb-true 1 (length (rowsOf e k)) p) (λ p. absurd (false≢true (rw p at (rw base at laid))))
+      (true-or-false (leb 1 (length (rowsOf e k))))
 
 first-in : (gs : List (List ℕ × List Row)) (k : ℕ) → map (λ g. firstOf (g .1)) gs ≡ map (λ g. (obligatory, identifier)) gs
     → 1 ≤ length (rowsIn gs k) → firstOf (rowsIn gs k) ≡ (obligatory, identifier)
 unfolding rowsIn
 first-in [] k e h = absurd (omega arith)
-first-in (g ∷ gs) k e h = go (isIn k (g .0)) h (first-in gs k (cc))
-  where
-    go : (t : Bool) → 1 ≤ length (if t then g .1 else rowsIn gs k)
-        → (1 ≤ length (rowsIn gs k) → firstOf (rowsIn gs k) ≡ (obligatory, identifier))
-        → firstOf (if t then g .1 else rowsIn gs k) ≡ (obligatory, identifier)
-    go true h on = cc
-    go false h on = on h
+first-in (g ∷ gs) k e h =
+    ⊎-elim (λ q. rw q (cc)) (λ q. rw q (first-in gs k (cc) (rw q at h))) (true-or-false (isIn k (g .0)))
 
 pub base-identifier-first : (e : Edition) (k : ℕ) → isBase e k ≡ true → Sound e → firstOf (rowsOf e k) ≡ (obligatory, identifier)
 unfolding rowsOf

@@ -1,75 +1,51 @@
 -- The edition of 2025 is sound: computed tests over its tables, and four lines that close a file.
-use Prim.Native.Nat.{ℕ, suc, _≤_, _<_}
-use mathlib.Core.Path.{_≡_, refl, sym, ap, _∙_}
-use mathlib.Core.Bool.{Bool, true, false, _||_, not, true≢false}
-use mathlib.Core.Logic.{⊎-elim}
-use mathlib.Core.List.{List, [], _∷_}
+use Prim.Native.Nat.{ℕ, suc, _<_}
+use mathlib.Core.Path.{_≡_, refl, sym, _∙_}
+use mathlib.Core.Bool.{Bool, true, false, _&&_, _||_, true≢false}
+use mathlib.Core.Logic.{_⊎_, ⊎-elim}
+use mathlib.Core.List.{List, []}
 use native.Mathlib.Omega.{arith}
 use lib.Dec.{eqb, ltb}
 use lib.ListN.{length}
-use borrow.Author.Tests.{eqb-true, eq-eqb, ltb-true, le-ltb}
-use Rattle.dirf.specs.Bytes.{bytes, every, isIn, lookup, bytes-opens}
-use Rattle.dirf.specs.Kinds.{Dirf, RESPO, DECPF, IDREC, SCP, FIMDirf, declarants, blocks, withIDREC, belowSCP, isBlock, isBeneficiary}
-use Rattle.dirf.specs.Kinds.{kinds-opens}
-use Rattle.dirf.specs.Below.{Children, underDECPF, underDECPJ, below2025}
+use borrow.Author.Tests.{le-ltb}
+use Rattle.dirf.specs as specs
+use Rattle.dirf.specs.Bytes.{if_then_else_, bytes, every, isIn, lookup, bytes-opens}
+use Rattle.dirf.specs.Kinds.{DECPF, IDREC, SCP, declarants, blocks, withIDREC, belowSCP, isBeneficiary, kinds-opens}
+use Rattle.dirf.specs.Below.{underDECPF, underDECPJ, below2025}
 use Rattle.dirf.specs.Edition.{edition2025, edition-opens}
-use Rattle.dirf.specs.Lines.{lines-opens}
-use Rattle.dirf.specs.Numbers.{numbers-opens}
-use Rattle.dirf.specs.Fields.{fields-opens}
-use Rattle.dirf.specs.Conditions.{conditions-opens}
-use Rattle.dirf.specs.Rules.{rules-opens}
-use Rattle.dirf.specs.Tree.{Rec, opening, mayStand}
-use Rattle.dirf.specs.Keys.{keys-opens}
-use Rattle.dirf.specs.Order.{line-opens}
+use Rattle.dirf.specs.Tree.{opening, mayStand}
 use Rattle.dirf.specs.Theorems.Plain.{_∈_}
 use Rattle.dirf.specs.Theorems.Sound.{level, Nested, rising, Closable, Sound}
-use Rattle.dirf.proofs.Bools.{and-left, and-right, or-cases, if-cases}
-use Rattle.dirf.proofs.Says.{says-or, isIn-says}
-use Rattle.dirf.proofs.Lists.{listed, every-in}
-use Rattle.dirf.proofs.Tables.{rows-right, kinds-right}
+use Rattle.dirf.proofs.Bools.{or-cases, if-cases}
+use Rattle.dirf.proofs.Says.{Says, says, isIn-says}
+use Rattle.dirf.proofs.Lists.{every-in}
+use Rattle.dirf.proofs.Tables.{in-table, rows-right, kinds-right}
 
--- what is asked of a record of kind k below one of kind h: where the first of a pair holds, the second does
-asks : ℕ → ℕ → List (Bool × Bool)
-asks h k =
-    (true, ltb (level h) (level k)) ∷
-    (eqb (level k) 4, eqb (level h) 3) ∷
-    (eqb (level k) 3, eqb (level h) 2) ∷
-    (eqb h SCP, isIn k belowSCP) ∷
-    (eqb k IDREC, isIn h withIDREC || isIn h declarants) ∷
-    (isBlock k, isIn h declarants) ∷
-    []
-
+-- what is asked of a record of kind k below one of kind h
 nests : ℕ → ℕ → Bool
-nests h k = every (λ q. not (q .0) || q .1) (asks h k)
-
-asked : (h k : ℕ) (a b : Bool) → (a, b) ∈ asks h k → nests h k ≡ true → a ≡ true → b ≡ true
-unfolding nests
-asked h k a b m e q =
-    ⊎-elim (λ n. absurd (true≢false (sym n ∙ ap not q))) (λ y. y) (or-cases (not a) b (every-in (λ q. not (q .0) || q .1) m e))
+nests h k =
+    ltb (level h) (level k)
+    && (if eqb (level k) 4 then eqb (level h) 3 else true)
+    && (if eqb (level k) 3 then eqb (level h) 2 else true)
+    && (if eqb h SCP then isIn k belowSCP else true)
+    && (if eqb k IDREC then isIn h withIDREC || isIn h declarants else true)
+    && (if isIn k blocks then isIn h declarants else true)
 
 nested-of : (h k : ℕ) → nests h k ≡ true → Nested h k
-unfolding asks isBlock
+unfolding nests
 nested-of h k e =
+    let parts : Says (nests h k)
+    ((((((level h < level k) × (level k ≡ 4 → level h ≡ 3)) × (level k ≡ 3 → level h ≡ 2)) × (h ≡ SCP → k ∈ belowSCP))
+    × (k ≡ IDREC → (h ∈ withIDREC) ⊎ (h ∈ declarants))) × (k ∈ blocks → h ∈ declarants)) = search says depth 20 in
+    let n = parts .0 e in
     record {
-      deeper = ltb-true (level h) (level k) (asked h k true _ (search listed depth 20) e refl);
-      of-beneficiary = λ q. eqb-true (level h) 3 (asked h k (eqb (level k) 4) _ (search listed depth 20) e (eq-eqb (level k) 4 q));
-      of-IDREC-or-SCP = λ q. eqb-true (level h) 2 (asked h k (eqb (level k) 3) _ (search listed depth 20) e (eq-eqb (level k) 3 q));
-      of-SCP = λ q. isIn-says k belowSCP .0 (asked h k (eqb h SCP) _ (search listed depth 20) e (eq-eqb h SCP q));
-      of-block-or-declarant = λ q.
-          says-or (isIn h withIDREC) (isIn h declarants) (isIn-says h withIDREC) (isIn-says h declarants) .0
-          (asked h k (eqb k IDREC) _ (search listed depth 20) e (eq-eqb k IDREC q));
-      of-declarant = λ m. isIn-says h declarants .0 (asked h k (isIn k blocks) _ (search listed depth 20) e (isIn-says k blocks .1 m));
+      deeper = n .0 .0 .0 .0 .0;
+      of-beneficiary = n .0 .0 .0 .0 .1;
+      of-IDREC-or-SCP = n .0 .0 .0 .1;
+      of-SCP = n .0 .0 .1;
+      of-block-or-declarant = n .0 .1;
+      of-declarant = n .1;
     }
-
--- what holds of every row of a table, and of no row, holds of what is looked up
-in-table : (test : ℕ → List ℕ → Bool) → ((h : ℕ) → test h [] ≡ true) → (t : Children) → every (λ r. test (r .0) (r .1)) t ≡ true
-    → (h : ℕ) → test h (lookup [] t h) ≡ true
-unfolding lookup bytes-opens
-in-table test none [] e h = none h
-in-table test none (r ∷ t) e h =
-    if-cases (λ ks. test h ks ≡ true) (eqb h (r .0))
-    (λ q. ap (λ x. test x (r .1)) (eqb-true h (r .0) q) ∙ and-left (test (r .0) (r .1)) _ e)
-    (λ _. in-table test none t (and-right (test (r .0) (r .1)) _ e) h)
 
 -- of either declarant's table
 below-says : (test : ℕ → List ℕ → Bool) → ((h : ℕ) → test h [] ≡ true)
@@ -77,11 +53,11 @@ below-says : (test : ℕ → List ℕ → Bool) → ((h : ℕ) → test h [] ≡
     → (d h : ℕ) → test h (lookup [] (below2025 d) h) ≡ true
 unfolding below2025
 below-says test none pf pj d h =
-    if-cases (λ t. test h (lookup [] t h) ≡ true) (eqb d DECPF) (λ _. in-table test none underDECPF pf h)
-    (λ _. in-table test none underDECPJ pj h)
+    if-cases (λ t. test h (lookup [] t h) ≡ true) (eqb d DECPF) (λ _. in-table test [] none underDECPF pf h)
+    (λ _. in-table test [] none underDECPJ pj h)
 
 nested2025 : (d h k : ℕ) → isIn k (lookup [] (below2025 d) h) ≡ true → Nested h k
-unfolding bytes-opens kinds-opens asks nests level
+unfolding bytes-opens kinds-opens nests level
 nested2025 d h k m =
     nested-of h k
     (every-in (nests h) (isIn-says k (lookup [] (below2025 d) h) .0 m) (below-says (λ h ks. every (nests h) ks) (λ h. refl) refl refl d h))
@@ -94,40 +70,20 @@ ordered2025 d h other =
     (or-cases (rising (lookup [] (below2025 d) h)) (isBeneficiary h)
     (below-says (λ h ks. rising ks || isBeneficiary h) (λ h. refl) refl refl d h))
 
--- where each of the four lines that close a file may stand
-stands0 : (before : List Rec) → length before ≡ 0 → mayStand edition2025 before Dirf ≡ true
-unfolding mayStand opening bytes-opens
-stands0 before e = rw e
-
-stands1 : (before : List Rec) → length before ≡ 1 → mayStand edition2025 before RESPO ≡ true
-unfolding mayStand opening bytes-opens
-stands1 before e = rw e
-
-stands2 : (before : List Rec) → length before ≡ 2 → mayStand edition2025 before DECPF ≡ true
-unfolding mayStand opening bytes-opens
-stands2 before e = rw e
-
-stands3 : (before : List Rec) → 3 ≤ length before → mayStand edition2025 before FIMDirf ≡ true
-unfolding mayStand opening bytes-opens
-stands3 before h = rw (le-ltb (length before) 3 h)
-
--- a line that is neither too late nor past the room
-fits : (before : List Rec) (room : ℕ) → length before < 65536 → length before < room
-    → (ltb 65536 (suc (length before)) ≡ false) × (ltb room (suc (length before)) ≡ false)
-fits before room m r = (le-ltb 65536 (suc (length before)) (omega arith), le-ltb room (suc (length before)) (omega arith))
-
 closable2025 : Closable edition2025
-unfolding bytes-opens kinds-opens edition-opens lines-opens numbers-opens fields-opens conditions-opens rules-opens keys-opens line-opens
+unfolding bytes-opens kinds-opens edition-opens specs.Lines.lines-opens specs.Numbers.numbers-opens specs.Fields.fields-opens
+    specs.Conditions.conditions-opens specs.Rules.rules-opens specs.Keys.keys-opens specs.Order.line-opens mayStand opening
 closable2025 =
     record {
       line1 = bytes "Dirf|2025|2024|N||R6GP3ZA|";
       line2 = bytes "RESPO|00000000000|A|11|33334444||||";
       line3 = bytes "DECPF|00000000000|A|N|N|N|N|N|||N|||||";
       last = bytes "FIMDirf|";
-      after0 = λ before e room c m r. let t = fits before room m r in simp (c, t .0, t .1, stands0 before e);
-      after1 = λ before e room c m r. let t = fits before room m r in simp (c, t .0, t .1, stands1 before e);
-      after2 = λ before e room c m r. let t = fits before room m r in simp (c, t .0, t .1, stands2 before e);
-      after3 = λ before h room c m r. let t = fits before room m r in simp (c, t .0, t .1, stands3 before h);
+      after0 = λ before e room c m r. simp (c, e, le-ltb room 1 (omega arith));
+      after1 = λ before e room c m r. simp (c, e, le-ltb room 2 (omega arith));
+      after2 = λ before e room c m r. simp (c, e, le-ltb room 3 (omega arith));
+      after3 = λ before h room c m r. let n = suc (length before) in
+          simp (c, le-ltb 65536 n (omega arith), le-ltb room n (omega arith), le-ltb (length before) 3 h);
       open1 = λ e. omega arith;
       open2 = λ e. omega arith;
       open3 = λ e. omega arith;

@@ -2,6 +2,7 @@
 use Prim.Native.Nat.{ℕ, zero, suc, _+_, _≤_, _<_}
 use mathlib.Core.Path.{_≡_, refl, sym, ap, _∙_, subst}
 use mathlib.Core.Bool.{Bool, true, false, _&&_}
+use mathlib.Core.Logic.{⊎-elim}
 use mathlib.Core.List.{List, [], _∷_, _++_, append-assoc, append-nil}
 use native.Mathlib.Omega.{arith}
 use native.Mathlib.Nat.{zero-add}
@@ -9,7 +10,7 @@ use lib.Dec.{eqb}
 use lib.ListN.{length, length-append, getD, take, drop}
 use lib.Seq.{split-at, take-at, drop-at, length-take-le}
 use borrow.Author.Tests.{eqb-true}
-use Rattle.dirf.specs.Bytes.{if_then_else_, Text}
+use Rattle.dirf.specs.Bytes.{Text}
 use Rattle.dirf.specs.Limits.{CR, LF, lineEnd}
 use Rattle.dirf.specs.Edition.{Edition}
 use Rattle.dirf.specs.Lines.{Piece, push, pieces}
@@ -20,7 +21,7 @@ use Rattle.dirf.specs.Theorems.Sound.{Sound}
 use Rattle.dirf.specs.Theorems.Answered.{recs, LinesRight, Answer, accepts, unclosed, refuses}
 use Rattle.dirf.specs.Theorems.Whose.{entryAt, IsLine}
 use Rattle.dirf.specs.Theorems.Entries.{startAt, lengthAt, bytesAt, Pointed, Entries}
-use Rattle.dirf.proofs.Bools.{and-left, and-right}
+use Rattle.dirf.proofs.Bools.{and-left, and-right, true-or-false}
 use Rattle.dirf.proofs.History.{table-length, entry-last, entry-earlier, line-cases}
 use Rattle.dirf.proofs.RunLaws.{recs-append, length-recs}
 use Rattle.dirf.proofs.WholeLaws.{AllEnded}
@@ -45,15 +46,14 @@ text-pieces : (s : Text) → textOf (pieces s) ≡ s
 unfolding pieces push textOf endOf
 text-pieces [] = refl
 text-pieces (b ∷ []) = refl
-text-pieces (b ∷ c ∷ s) = go (eqb b CR && eqb c LF) refl (text-pieces s) (text-pieces (c ∷ s))
-  where
-    go : (t : Bool) → (eqb b CR && eqb c LF) ≡ t → textOf (pieces s) ≡ s → textOf (pieces (c ∷ s)) ≡ c ∷ s
-        → textOf (if t then record { body = []; ended = true } ∷ pieces s else push b (pieces (c ∷ s))) ≡ b ∷ c ∷ s
-    go true q f g =
-        ap (λ l. CR ∷ LF ∷ l) f
-        ∙ ap (λ x. x ∷ LF ∷ s) (sym (eqb-true b CR (and-left (eqb b CR) (eqb c LF) q)))
-        ∙ ap (λ x. b ∷ x ∷ s) (sym (eqb-true c LF (and-right (eqb b CR) (eqb c LF) q)))
-    go false q f g = text-push b (pieces (c ∷ s)) ∙ ap (λ l. b ∷ l) g
+text-pieces (b ∷ c ∷ s) =
+    ⊎-elim
+    (λ q.
+    let e : b ≡ CR = eqb-true b CR (and-left (eqb b CR) (eqb c LF) q) in
+    let f : c ≡ LF = eqb-true c LF (and-right (eqb b CR) (eqb c LF) q) in
+    rw q (cc (text-pieces s)))
+    (λ q. rw q (text-push b (pieces (c ∷ s)) ∙ ap (λ l. b ∷ l) (text-pieces (c ∷ s))))
+    (true-or-false (eqb b CR && eqb c LF))
 
 text-append : (ps qs : List Piece) → textOf (ps ++ qs) ≡ textOf ps ++ textOf qs
 unfolding textOf
@@ -103,56 +103,40 @@ module _ (e : Edition) where
       ∙ ap (λ n. entryAt (tableOf (recOf e before p ∷ before)) (suc n)) (sym count)
       ∙ entry-last (recOf e before p) before
 
+  -- line n of the table of some lines of a file stands there, and CR LF behind it
+  abbrev At : Text → List Piece → ℕ → Type 0
+  At file os n =
+      let t = tableOf (recs e [] os) in
+      Nth (pieces file) n (wholeLine (bytesAt file t n)) × (take 2 (drop (startAt t n + lengthAt t n) file) ≡ 13 ∷ 10 ∷ [])
+
   -- the line p of a file, after the lines os
-  module _ (file : Text) (os : List Piece) (p : Piece) (qs rest : List Piece) (cut : pieces file ≡ os ++ (p ∷ qs) ++ rest)
-      (ended : AllEnded (os ++ (p ∷ qs))) where
-    abbrev t : List Entry
-    t = tableOf (recs e [] (os ++ (p ∷ qs)))
-
-    abbrev n : ℕ
-    n = suc (length os)
-
-    parts : AllEnded os × AllEnded (p ∷ qs)
-    parts = ended-parts os (p ∷ qs) ended
-
-    starts : startAt t n ≡ length (textOf os)
-    unfolding entryOf bytesOf
-    starts = ap (λ x. x .start) (entry-of os p qs) ∙ bytes-read [] os (parts .0) ∙ zero-add (length (textOf os))
-
-    lasts : lengthAt t n ≡ length (p .body)
-    unfolding entryOf recOf
-    lasts = ap (λ x. x .length) (entry-of os p qs)
-
-    on-from : pieces file ≡ os ++ (p ∷ qs ++ rest)
-    on-from = cut ∙ append-assoc os (p ∷ qs) rest
-
-    -- the file is what stands before the line, the line, CR LF, and the rest
-    after : Text
-    after = CR ∷ LF ∷ textOf (qs ++ rest)
-
-    whole : file ≡ textOf os ++ (p .body ++ after)
-    unfolding after
-    whole =
-        sym (text-pieces file) ∙ ap textOf on-from ∙ text-append os (p ∷ qs ++ rest)
-        ∙ ap (λ s. textOf os ++ s) (text-line p (qs ++ rest) (parts .1 .0))
-
-    line-bytes : bytesAt file t n ≡ p .body
-    line-bytes =
-        ap (λ s. take (lengthAt t n) (drop (startAt t n) s)) whole
-        ∙ ap (take (lengthAt t n)) (drop-at (textOf os) (p .body ++ after) (startAt t n) (sym starts))
-        ∙ take-at (p .body) after (lengthAt t n) (sym lasts)
-
-    line-ended : take 2 (drop (startAt t n + lengthAt t n) file) ≡ 13 ∷ 10 ∷ []
-    unfolding after
-    line-ended =
+  line-at : (file : Text) (os : List Piece) (p : Piece) (qs rest : List Piece) → pieces file ≡ os ++ (p ∷ qs) ++ rest
+      → AllEnded (os ++ (p ∷ qs)) → At file (os ++ (p ∷ qs)) (suc (length os))
+  unfolding entryOf bytesOf recOf
+  line-at file os p qs rest cut ended =
+      let n = suc (length os) in
+      let t : List Entry = tableOf (recs e [] (os ++ (p ∷ qs))) in
+      let parts = ended-parts os (p ∷ qs) ended in
+      let starts : startAt t n ≡ length (textOf os) =
+      ap (λ x. x .start) (entry-of os p qs) ∙ bytes-read [] os (parts .0) ∙ zero-add (length (textOf os)) in
+      let lasts : lengthAt t n ≡ length (p .body) = ap (λ x. x .length) (entry-of os p qs) in
+      let on-from : pieces file ≡ os ++ (p ∷ qs ++ rest) = cut ∙ append-assoc os (p ∷ qs) rest in
+      -- the file is what stands before the line, the line, CR LF, and the rest
+      let after : Text = CR ∷ LF ∷ textOf (qs ++ rest) in
+      let whole : file ≡ textOf os ++ (p .body ++ after) =
+      sym (text-pieces file) ∙ ap textOf on-from ∙ text-append os (p ∷ qs ++ rest)
+      ∙ ap (λ s. textOf os ++ s) (text-line p (qs ++ rest) (parts .1 .0)) in
+      let line-bytes : bytesAt file t n ≡ p .body =
+      ap (λ s. take (lengthAt t n) (drop (startAt t n) s)) whole
+      ∙ ap (take (lengthAt t n)) (drop-at (textOf os) (p .body ++ after) (startAt t n) (sym starts))
+      ∙ take-at (p .body) after (lengthAt t n) (sym lasts) in
+      let here : p ≡ wholeLine (bytesAt file t n) = rw line-bytes (ap (λ b. record { body = p .body; ended = b }) (parts .1 .0)) in
+      let end : length (textOf os ++ p .body) ≡ startAt t n + lengthAt t n =
+      length-append (textOf os) (p .body) ∙ omega (arith, starts, lasts) in (
+        subst (Nth (pieces file) n) here (subst (λ ps. Nth ps n p) (sym on-from) (nth-at os p (qs ++ rest))),
         ap (λ s. take 2 (drop (startAt t n + lengthAt t n) s)) (whole ∙ sym (append-assoc (textOf os) (p .body) after))
-        ∙ ap (take 2) (drop-at (textOf os ++ p .body) after (startAt t n + lengthAt t n)
-        (omega (arith, length-append (textOf os) (p .body), starts, lasts)))
-
-    line-nth : Nth (pieces file) n (wholeLine (bytesAt file t n))
-    line-nth =
-        subst (Nth (pieces file) n) (ap (λ b. record { body = p .body; ended = b }) (parts .1 .0) ∙ ap wholeLine (sym line-bytes))
-        (subst (λ ps. Nth ps n p) (sym on-from) (nth-at os p (qs ++ rest)))
+            ∙ ap (take 2) (drop-at (textOf os ++ p .body) after (startAt t n + lengthAt t n) end),
+      )
 
 -- starts follow each other without a gap
 first-start : (rs : List Rec) → 1 ≤ length rs → startAt (tableOf rs) 1 ≡ 0
@@ -181,41 +165,19 @@ next-start (r ∷ x ∷ rs) n h =
 module _ (e : Edition) where
   -- every line of the table of some whole lines of a file, whatever follows them there
   module _ (file : Text) (os rest : List Piece) (cut : pieces file ≡ os ++ rest) (ended : AllEnded os) where
-    abbrev At : List Piece → ℕ → Type 0
-    At os n =
-        let t = tableOf (recs e [] os) in
-        Nth (pieces file) n (wholeLine (bytesAt file t n)) × (take 2 (drop (startAt t n + lengthAt t n) file) ≡ 13 ∷ 10 ∷ [])
-
-    at-line : (n : ℕ) → IsLine (tableOf (recs e [] os)) n → At os n
+    at-line : (n : ℕ) → IsLine (tableOf (recs e [] os)) n → At e file os n
     at-line zero l = absurd (omega (arith, l .0))
     at-line (suc i) l =
-        subst (λ (ps : List Piece). At ps (suc i)) (sym split)
-        (subst (λ j. At (before ++ (p ∷ behind)) (suc j)) count
-        (line-nth e file before p behind rest cut′ ended′, line-ended e file before p behind rest cut′ ended′))
-      where
-        small : i < length os
-        small = omega (arith, l .1, table-length (recs e [] os), length-recs e [] os)
-
-        before : List Piece
-        before = take i os
-
-        behind : List Piece
-        behind = drop (suc i) os
-
-        p : Piece
-        p = getD os i (wholeLine [])
-
-        split : os ≡ before ++ (p ∷ behind)
-        split = split-at os i (wholeLine []) small
-
-        count : length before ≡ i
-        count = length-take-le i os (omega (arith, small))
-
-        cut′ : pieces file ≡ before ++ (p ∷ behind) ++ rest
-        cut′ = cut ∙ ap (λ ps. ps ++ rest) split
-
-        ended′ : AllEnded (before ++ (p ∷ behind))
-        ended′ = subst AllEnded split ended
+        let small : i < length os = omega (arith, l .1, table-length (recs e [] os), length-recs e [] os) in
+        let before = take i os in
+        let p = getD os i (wholeLine []) in
+        let behind = drop (suc i) os in
+        let split : os ≡ before ++ (p ∷ behind) = split-at os i (wholeLine []) small in
+        let cut′ = cut ∙ ap (λ ps. ps ++ rest) split in
+        let ended′ = subst AllEnded split ended in
+        subst (λ (ps : List Piece). At e file ps (suc i)) (sym split)
+        (subst (λ j. At e file (before ++ (p ∷ behind)) (suc j)) (length-take-le i os (omega arith))
+        (line-at e file before p behind rest cut′ ended′))
 
   pointed : (file : Text) (os rest : List Piece) → pieces file ≡ os ++ rest → AllEnded os → Pointed file (tableOf (recs e [] os))
   pointed file os rest cut ended =

@@ -1,7 +1,8 @@
 -- The field reader's place and bytes agree.
 use Prim.Native.Nat.{ℕ, zero, suc, _+_, _-_, _≤_}
 use mathlib.Core.Path.{_≡_, refl, sym, ap, _∙_}
-use mathlib.Core.Bool.{Bool, true, false, false≢true}
+use mathlib.Core.Bool.{true, false, false≢true}
+use mathlib.Core.Logic.{⊎-elim}
 use mathlib.Core.List.{[], _∷_, _++_, append-assoc, append-nil}
 use native.Mathlib.Omega.{arith}
 use lib.Dec.{leb}
@@ -14,21 +15,16 @@ use Rattle.dirf.specs.Lines.{fields, field}
 use Rattle.dirf.specs.FieldReader.{fieldThere, fieldOf, fieldStart, fieldLength}
 use Rattle.dirf.specs.LineWriter.{joined}
 use Rattle.dirf.specs.Theorems.ThereAndBack.{FieldPlaced}
-use Rattle.dirf.proofs.Bools.{and-right}
+use Rattle.dirf.proofs.Bools.{and-right, true-or-false}
 use Rattle.dirf.proofs.Bars.{rejoined, length-joined, joined-append}
 
--- a part of a line, with what stands before and behind it
-record Part (line c : Text) (start : ℕ) : Type 0 where
-  before : Text
-  behind : Text
-  whole : line ≡ before ++ (c ++ behind)
-  starts : length before ≡ start
+-- a part c of a line from byte `start` on: its bytes stand there, inside the line
+abbrev Part : Text → Text → ℕ → Type 0
+Part line c start = (take (length c) (drop start line) ≡ c) × (start + length c ≤ length line)
 
-part-bytes : (line c : Text) (start : ℕ) → Part line c start → take (length c) (drop start line) ≡ c
-part-bytes line c start p = rw (p .whole, drop-at (p .before) (c ++ p .behind) start (p .starts), take-append-seam c (p .behind))
-
-part-inside : (line c : Text) (start : ℕ) → Part line c start → start + length c ≤ length line
-part-inside line c start p = rw (p .whole) (simp length-append (omega arith))
+part : {line : Text} (before c behind : Text) (start : ℕ) → line ≡ before ++ (c ++ behind) → length before ≡ start → Part line c start
+part before c behind start w s =
+    (rw (w, drop-at before (c ++ behind) start s, take-append-seam c behind), rw w (simp length-append (omega arith)))
 
 nowhere : (k : ℕ) (line : Text) → fieldThere k line ≡ false → (fieldStart k line ≡ length line) × (fieldOf k line ≡ [])
 unfolding fieldThere fieldStart fieldOf field
@@ -46,27 +42,14 @@ somewhere (suc j) line e =
     let parted : joined cs ≡ joined (take j cs) ++ (getD cs j [] ++ (bar ∷ joined (drop (suc j) cs)))
     = ap joined (split-at cs j [] below) ∙ joined-append (take j cs) (getD cs j [] ∷ drop (suc j) cs) in
     let minus : suc j - 1 ≡ j = omega arith in
-    record {
-      before = joined (take j cs);
-      behind = (bar ∷ joined (drop (suc j) cs)) ++ rejoined line .rest;
-      whole = rejoined line .whole ∙ rw parted (simp append-assoc);
-      starts = rw (e, minus) (length-joined (take j cs));
-    }
-
-part : (k : ℕ) (line : Text) → Part line (fieldOf k line) (fieldStart k line)
-part k line = go (fieldThere k line) refl
-  where
-    go : (t : Bool) → fieldThere k line ≡ t → Part line (fieldOf k line) (fieldStart k line)
-    go true e = somewhere k line e
-    go false e =
-        let n = nowhere k line e in
-        rw (n .0, n .1) (record { before = line; behind = []; whole = sym (append-nil line); starts = refl })
+    part (joined (take j cs)) (getD cs j []) ((bar ∷ joined (drop (suc j) cs)) ++ rejoined line .rest) _
+    (rejoined line .whole ∙ rw parted (simp append-assoc)) (rw (e, minus) (length-joined (take j cs)))
 
 pub field-placed : (k : ℕ) (line : Text) → FieldPlaced k line
 unfolding fieldLength
 field-placed k line =
-    record {
-      bytes = part-bytes line (fieldOf k line) (fieldStart k line) (part k line);
-      inside = part-inside line (fieldOf k line) (fieldStart k line) (part k line);
-      nowhere = λ e. (nowhere k line e .0, ap length (nowhere k line e .1));
-    }
+    let place : Part line (fieldOf k line) (fieldStart k line) =
+    ⊎-elim (somewhere k line)
+    (λ e. let n = nowhere k line e in rw (n .0, n .1) (part line [] [] (length line) (sym (append-nil line)) refl))
+    (true-or-false (fieldThere k line)) in
+    record { bytes = place .0; inside = place .1; nowhere = λ e. (nowhere k line e .0, ap length (nowhere k line e .1)) }

@@ -1,46 +1,26 @@
 -- A rule finds nothing exactly when its own test, in whatever form it comes, gives nothing.
 use Prim.Native.Nat.{ℕ, suc}
-use mathlib.Core.Path.{_≡_, refl, sym, _∙_}
-use mathlib.Core.Bool.{Bool, true, false, _&&_, true≢false}
-use mathlib.Core.Logic.{_↔_}
-use mathlib.Core.List.{List, [], _∷_}
-use lib.Dec.{eqb}
-use borrow.Author.Tests.{eqb-true, eq-eqb}
+use mathlib.Core.Path.{_≡_, sym, _∙_}
+use mathlib.Core.Bool.{false, true≢false}
+use mathlib.Core.Logic.{_↔_, ⊎-elim}
+use mathlib.Core.List.{List}
+use borrow.Author.Tests.{eq-eqb}
 use Rattle.dirf.specs.Bytes.{Text}
 use Rattle.dirf.specs.Row.{Row}
 use Rattle.dirf.specs.Fields.{FieldRule}
-use Rattle.dirf.specs.Conditions.{Condition}
-use Rattle.dirf.specs.Rules.{keeps, given, orElse, Rule, gives, fieldByField, conditions, askField, askFields, ask, first}
+use Rattle.dirf.specs.Rules.{keeps, Rule, askField, askFields, ask, first}
 use Rattle.dirf.specs.Theorems.Plain.{_∈_, Nth, this, next}
 use Rattle.dirf.specs.Theorems.Answered.{Given, by-test, by-field, by-condition}
-use Rattle.dirf.proofs.Bools.{and-left, and-right, unless-true}
-use Rattle.dirf.proofs.Lists.{every-in}
-use Rattle.dirf.proofs.Asked.{given-false, or-else-left, or-else-right, one-kept, all-kept, first-tries, condition-tries}
-use Rattle.dirf.proofs.Asked.{field-kept, keeps-field, numbersPass}
+use Rattle.dirf.proofs.Asked.{found-cases, given-false, or-else-left, or-else-right, one-kept, all-kept, first-tries}
+use Rattle.dirf.proofs.Asked.{condition-tries, field-kept, ask-breaks}
 
--- the number that a rule gives is one of its own
-pub given-number : {A : Type 0} (test : ℕ → Bool) {a : A} {n f : ℕ} {r : Rule A} → Given a n f r → numbersPass test r ≡ true → test n ≡ true
-given-number test (by-test p q t) e = rw (← p) e
-given-number test (by-field x r s m p i j t) e = rw (← p) (every-in (λ y. test (y .0)) m e)
-given-number test (by-condition x q m p k t) e = rw (← q) e
-
-module _ (xs : List FieldRule) (name : Text) where
-  row-kept : {rs : List Row} {cs : List Text} {n : ℕ} {r : Row} {s : Text} (f : ℕ) → Nth rs n r → Nth cs n s
-      → askFields f xs name rs cs ≡ keeps → (x : FieldRule) → x ∈ xs → x .1 name r s ≡ false
-  unfolding askFields
-  row-kept f (this {x = r} {xs = rs}) (this {x = c} {xs = cs}) e x m =
-      field-kept f name r c (x .0) (x .1) m (or-else-left (askField f xs name r c) (askFields (suc f) xs name rs cs) e)
-  row-kept f (next {x = r} {xs = rs} i) (next {x = c} {xs = cs} j) e x m =
-      row-kept (suc f) i j (or-else-right (askField f xs name r c) (askFields (suc f) xs name rs cs) e) x m
-
-  keeps-rows : (f : ℕ) (rs : List Row) (cs : List Text)
-      → ((n : ℕ) (r : Row) (s : Text) → Nth rs n r → Nth cs n s → (x : FieldRule) → x ∈ xs → x .1 name r s ≡ false)
-      → askFields f xs name rs cs ≡ keeps
-  unfolding askFields orElse
-  keeps-rows f [] cs h = refl
-  keeps-rows f (r ∷ rs) [] h = refl
-  keeps-rows f (r ∷ rs) (c ∷ cs) h =
-      rw (keeps-field f name r c xs (h 1 r c this this)) (keeps-rows (suc f) rs cs (λ n r s i j. h (suc n) r s (next i) (next j)))
+row-kept : {rs : List Row} {cs : List Text} {n : ℕ} {r : Row} {s : Text} (xs : List FieldRule) (name : Text) (f : ℕ)
+    → Nth rs n r → Nth cs n s → askFields f xs name rs cs ≡ keeps → (x : FieldRule) → x ∈ xs → x .1 name r s ≡ false
+unfolding askFields
+row-kept xs name f (this {x = r} {xs = rs}) (this {x = c} {xs = cs}) e x m =
+    field-kept f name r c (x .0) (x .1) m (or-else-left (askField f xs name r c) (askFields (suc f) xs name rs cs) e)
+row-kept xs name f (next {x = r} {xs = rs} i) (next {x = c} {xs = cs} j) e x m =
+    row-kept xs name (suc f) i j (or-else-right (askField f xs name r c) (askFields (suc f) xs name rs cs) e) x m
 
 module _ {A : Type 0} where
   pub keeps-gives-none : {a : A} {n f : ℕ} {r : Rule A} → ask r a ≡ keeps → Given a n f r → ⊥
@@ -52,18 +32,7 @@ module _ {A : Type 0} where
       true≢false (sym t ∙ (rw (eq-eqb (of a .kind) (x .kind) k) at kept))
 
   pub none-given-keeps : (a : A) (r : Rule A) → ((n f : ℕ) → Given a n f r → ⊥) → ask r a ≡ keeps
-  unfolding ask given
-  none-given-keeps a (gives n f t) no-one = rw (unless-true (t a) (λ e. no-one n f (by-test refl refl e)))
-  none-given-keeps a (fieldByField xs of) no-one =
-      keeps-rows xs (of a .name) 1 (of a .rows) (of a .cells)
-      (λ n r s i j x m. unless-true (x .1 (of a .name) r s) (λ e. no-one (x .0) n (by-field x r s m refl i j e)))
-  none-given-keeps a (conditions n xs of) no-one =
-      all-kept _ _ (condition-tries n (of a .kind) (of a .cells)) xs (λ x m. rw (unless-true _ (broken x m)))
-    where
-      broken : (x : Condition) → x ∈ xs → eqb (of a .kind) (x .kind) && x .broken (of a .cells) ≡ true → ⊥
-      broken x m e =
-          let k = eqb-true (of a .kind) (x .kind) (and-left _ (x .broken (of a .cells)) e) in
-          no-one n (x .field) (by-condition x refl m refl k (and-right (eqb (of a .kind) (x .kind)) _ e))
+  none-given-keeps a r no-one = ⊎-elim (λ q. q) (λ b. absurd (no-one (b .0) (b .1) (ask-breaks r a (b .2)))) (found-cases (ask r a))
 
   -- a list is kept exactly when no rule of it gives anything
   pub none-given : (rs : List (Rule A)) (a : A) → (first rs a ≡ keeps) ↔ ((n f : ℕ) (r : Rule A) → r ∈ rs → Given a n f r → ⊥)

@@ -1,16 +1,16 @@
 -- What fields that keep the rules are like.
 use Prim.Native.Nat.{ℕ, suc, _≤_}
 use mathlib.Core.Path.{_≡_, sym}
-use mathlib.Core.Bool.{true, false, true≢false, false≢true}
+use mathlib.Core.Bool.{true, false, true≢false}
 use mathlib.Core.List.{List, [], _∷_}
 use native.Mathlib.Omega.{arith}
 use lib.Dec.{leb}
 use lib.ListN.{length}
 use borrow.Author.Tests.{eqb-true, leb-true, not-false}
-use Rattle.dirf.specs.Bytes.{Text, some, isIn, isEmpty}
+use Rattle.dirf.specs.Bytes.{Text, isEmpty}
 use Rattle.dirf.specs.Row.{Row, Format, C, N, D, Fill, fixed, variable, obligatory, identifier}
-use Rattle.dirf.specs.Fields.{isObligatory, rightByte, fillsTo, sizeHeld, valid, filled, obligatoryFieldEmpty}
-use Rattle.dirf.specs.Fields.{byteOfTheWrongKind, wrongSize, notAValidValue, fieldOrder}
+use Rattle.dirf.specs.Fields.{isObligatory, rightByte, fillsTo, sizeHeld, valid, filled, obligatoryFieldEmpty, byteOfTheWrongKind}
+use Rattle.dirf.specs.Fields.{wrongSize, notAValidValue, fieldOrder}
 use Rattle.dirf.specs.Rules.{keeps, askField, askFields}
 use Rattle.dirf.specs.FieldReader.{widthOf}
 use Rattle.dirf.specs.LineWriter.{sum}
@@ -19,6 +19,7 @@ use Rattle.dirf.specs.Theorems.Plain.{RightByte}
 use Rattle.dirf.proofs.Bools.{and-left, and-right}
 use Rattle.dirf.proofs.Lists.{listed, Each, none, _also_, every-in}
 use Rattle.dirf.proofs.Says.{digit-says, same-says}
+use Rattle.dirf.proofs.FieldLaws.{right-byte-says}
 use Rattle.dirf.proofs.Asked.{or-else-left, or-else-right, field-kept}
 use Rattle.dirf.proofs.Bars.{Cell}
 
@@ -35,9 +36,8 @@ within-size name r (b ∷ s) e =
     fills-within (r .fill) (r .size) (length (b ∷ s)) (and-left _ (sizeHeld (r .holds) (length (b ∷ s))) (not-false _ e))
 
 right-byte : (g : Format) (b : ℕ) → rightByte g b ≡ true → RightByte C b
-unfolding rightByte isIn some
-right-byte C b e =
-    (λ p. absurd (false≢true (rw p at e)), λ p. absurd (false≢true (rw p at e)), λ p. absurd (false≢true (rw p at e)))
+unfolding rightByte
+right-byte C b e = right-byte-says C b .0 e
 right-byte N b e = omega (arith, digit-says b .0 e)
 right-byte D b e = omega (arith, digit-says b .0 e)
 

@@ -2,7 +2,7 @@
 use mathlib.Core.Path.{_≡_, refl}
 use mathlib.Core.Bool.{Bool, true, false, _&&_, _||_, false≢true, and-false, or-true}
 use mathlib.Core.List.{List, [], _∷_}
-use mathlib.Core.Logic.{_⊎_, inl, inr}
+use mathlib.Core.Logic.{_⊎_, inl, inr, ⊎-elim}
 use native.Mathlib.Omega.{arith}
 use lib.Dec.{eqb, ltb}
 use borrow.Author.Tests.{ltb-true, lt-ltb, le-ltb, eqb-true}
@@ -42,14 +42,14 @@ module _ {A : Type 0} (lt eq : A → A → Bool) (ltOf : List A → List A → B
   lexical-transitive (a ∷ as′) [] c h k = absurd (false≢true (rw (l .behind) at h))
   lexical-transitive (a ∷ as′) (b ∷ bs) [] h k = absurd (false≢true (rw (l .behind) at k))
   lexical-transitive (a ∷ as′) (b ∷ bs) (c ∷ cs) h k =
-      rw (l .both a c as′ cs) (go (lexical-transitive as′ bs cs) (decided _ _ _ (rw (l .both) at h)) (decided _ _ _ (rw (l .both) at k)))
-    where
-      go : (ltOf as′ bs ≡ true → ltOf bs cs ≡ true → ltOf as′ cs ≡ true) → (lt a b ≡ true) ⊎ ((eq a b ≡ true) × (ltOf as′ bs ≡ true))
-          → (lt b c ≡ true) ⊎ ((eq b c ≡ true) × (ltOf bs cs ≡ true)) → lt a c || eq a c && ltOf as′ cs ≡ true
-      go on (inl p) (inl q) = rw (o .transitive a b c p q)
-      go on (inl p) (inr q) = rw (← o .same b c (q .0), p)
-      go on (inr p) (inl q) = rw (o .same a b (p .0), q)
-      go on (inr p) (inr q) = rw (← o .same b c (q .0), p .0, on (p .1) (q .1)) (or-true (lt a b))
+      let second = decided _ _ _ (rw (l .both b c bs cs) at k) in
+      rw (l .both a c as′ cs)
+      (⊎-elim
+      (λ p. ⊎-elim (λ q. rw (o .transitive a b c p q)) (λ q. rw (← o .same b c (q .0), p)) second)
+      (λ p.
+      ⊎-elim (λ q. rw (o .same a b (p .0), q))
+      (λ q. rw (← o .same b c (q .0), p .0, lexical-transitive as′ bs cs (p .1) (q .1)) (or-true (lt a b))) second)
+      (decided _ _ _ (rw (l .both a b as′ bs) at h)))
 
 numbers-ordered : Ordered ltb eqb
 numbers-ordered =
@@ -59,25 +59,24 @@ numbers-ordered =
       same = eqb-true;
     }
 
-texts-lexical : Lexical ltb eqb less
-unfolding less
-texts-lexical = record { none = refl; before = λ b bs. refl; behind = λ a as′. refl; both = λ a b as′ bs. refl }
-
+-- both tests of lists go by their first difference, by computing
 texts-ordered : Ordered less same
+unfolding less
 texts-ordered =
+    let by-byte : Lexical ltb eqb less =
+    record { none = refl; before = λ b bs. refl; behind = λ a as′. refl; both = λ a b as′ bs. refl } in
     record {
-      irreflexive = lexical-irreflexive ltb eqb less numbers-ordered texts-lexical;
-      transitive = lexical-transitive ltb eqb less numbers-ordered texts-lexical;
+      irreflexive = lexical-irreflexive ltb eqb less numbers-ordered by-byte;
+      transitive = lexical-transitive ltb eqb less numbers-ordered by-byte;
       same = λ a b. same-says a b .0;
     }
 
-keys-lexical : Lexical less same keyLess
-unfolding keyLess
-keys-lexical = record { none = refl; before = λ b bs. refl; behind = λ a as′. refl; both = λ a b as′ bs. refl }
-
 pub keys-ordered : KeysOrdered
+unfolding keyLess
 keys-ordered =
+    let by-field : Lexical less same keyLess =
+    record { none = refl; before = λ b bs. refl; behind = λ a as′. refl; both = λ a b as′ bs. refl } in
     record {
-      irreflexive = lexical-irreflexive less same keyLess texts-ordered keys-lexical;
-      transitive = lexical-transitive less same keyLess texts-ordered keys-lexical;
+      irreflexive = lexical-irreflexive less same keyLess texts-ordered by-field;
+      transitive = lexical-transitive less same keyLess texts-ordered by-field;
     }

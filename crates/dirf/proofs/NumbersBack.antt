@@ -1,7 +1,7 @@
 -- Amounts and month counts, there and back: one law over the size for both.
 use Prim.Native.Nat.{ℕ, zero, suc, _+_, _-_, _*_, _/_, _%_, _^_, _≤_, _<_}
 use mathlib.Core.Path.{_≡_, refl, sym, ap, _∙_}
-use mathlib.Core.Bool.{Bool, true, false}
+use mathlib.Core.Bool.{true, false}
 use mathlib.Core.List.{[], _∷_, _++_, append-nil}
 use native.Mathlib.Omega.{arith}
 use native.Mathlib.Nat.{one-le-pow}
@@ -9,7 +9,7 @@ use lib.Dec.{eqb, ltb}
 use lib.ListN.{length, length-append}
 use lib.Seq.{append-snoc}
 use borrow.Author.Tests.{eqb-true, eqb-false, ne-eqb, le-leb, le-ltb, ltb-false, not-false}
-use Rattle.dirf.specs.Bytes.{if_then_else_, bytes-opens, Text, every, isDigit, beginsWith}
+use Rattle.dirf.specs.Bytes.{bytes-opens, Text, every, isDigit, beginsWith}
 use Rattle.dirf.specs.Limits.{amountSize, monthSize, largest}
 use Rattle.dirf.specs.Row.{Row, row, N, variable, optional, amount}
 use Rattle.dirf.specs.Numbers.{valueAfter, valueOf, decimal}
@@ -19,7 +19,7 @@ use Rattle.dirf.specs.Written.{writes}
 use Rattle.dirf.specs.Amounts.{overTheLimit, readAs, readNumber, Figure, digitsOf, figureOrder, writeNumber, amounts-opens}
 use Rattle.dirf.specs.Theorems.Plain.{_∈_}
 use Rattle.dirf.specs.Theorems.ThereAndBack.{Numbers}
-use Rattle.dirf.proofs.Bools.{and-left, and-right}
+use Rattle.dirf.proofs.Bools.{and-left, and-right, if-cases}
 use Rattle.dirf.proofs.Lists.{listed, none, _also_, of-each, every-append}
 use Rattle.dirf.proofs.Says.{digit-says}
 use Rattle.dirf.proofs.KeptFields.{within-size}
@@ -41,16 +41,14 @@ data Digits : ℕ → ℕ → Text → Type 0 where
 written : (n v : ℕ) → v < 10 ^ n → Digits n v (decimal n v)
 unfolding decimal
 written zero v h = nothing {v = v} (omega arith)
-written (suc n) v h = go (eqb v 0) refl (written n (v / 10) (omega arith))
-  where
-    go : (t : Bool) → eqb v 0 ≡ t → Digits n (v / 10) (decimal n (v / 10))
-        → Digits (suc n) v (if t then [] else decimal n (v / 10) ++ ((48 + v % 10) ∷ []))
-    go true e ds = nothing (eqb-true v 0 e)
-    go false e ds =
-        let z = eqb-false v 0 e in
-        one-more {w = v} ds (48 + v % 10) (digit-says (48 + v % 10) .1 (omega arith)) (omega arith) (omega arith)
+written (suc n) v h =
+    if-cases (Digits (suc n) v) (eqb v 0) (λ e. nothing (eqb-true v 0 e))
+    (λ e.
+    let z = eqb-false v 0 e in
+    let last = digit-says (48 + v % 10) .1 (omega arith) in
+    one-more {w = v} (written n (v / 10) (omega arith)) (48 + v % 10) last (omega arith) (omega arith))
 
-nothing-written : (n : ℕ) → decimal n 0 ≡ []
+pub nothing-written : (n : ℕ) → decimal n 0 ≡ []
 unfolding decimal
 nothing-written zero = refl
 nothing-written (suc n) = refl

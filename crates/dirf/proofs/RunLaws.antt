@@ -1,7 +1,8 @@
 -- Laws of the run over a file's lines: what the lines so far decide.
 use Prim.Native.Nat.{ℕ, _+_}
-use mathlib.Core.Path.{_≡_, refl, sym, ap, _∙_, subst}
-use mathlib.Core.List.{List, [], _∷_, _++_, append-nil, nil≢cons, head-eq-of-cons-eq, tail-eq-of-cons-eq}
+use mathlib.Core.Path.{_≡_, refl, sym, ap, _∙_}
+use mathlib.Core.Logic.{⊎-elim}
+use mathlib.Core.List.{List, [], _∷_, _++_, append-nil}
 use native.Mathlib.Omega.{arith}
 use native.Mathlib.Nat.{add-zero}
 use lib.ListN.{length}
@@ -13,6 +14,7 @@ use Rattle.dirf.specs.Tree.{Rec}
 use Rattle.dirf.specs.Order.{here, order}
 use Rattle.dirf.specs.Check.{recOf, refused, noBytesLeft, breach, afterLine, run, verdict}
 use Rattle.dirf.specs.Theorems.Answered.{recs, FirstBroken}
+use Rattle.dirf.proofs.Asked.{found-cases}
 use Rattle.dirf.proofs.RuleLaws.{first-broken, broken-first}
 
 module _ (e : Edition) (room : ℕ) where
@@ -33,53 +35,45 @@ module _ (e : Edition) (room : ℕ) where
   run-kept before [] qs k = refl
   run-kept before (p ∷ ps) qs k = run-line before p (ps ++ qs) keeps (k .0) ∙ run-kept (recOf e before p ∷ before) ps qs (k .1)
 
-  -- a line that breaks a rule decides, whatever follows
-  pub run-stops : (before : List Rec) (ps : List Piece) (p : Piece) (qs : List Piece) (n f : ℕ) → Kept before ps
-      → FirstBroken (here e room (recs e before ps) p) n f order → run e room before (ps ++ (p ∷ qs)) ≡ refused (recs e before ps) n f
-  unfolding afterLine
-  run-stops before ps p qs n f k b = run-kept before ps (p ∷ qs) k ∙ run-line (recs e before ps) p qs (breaks n f) (broken-first b)
-
   -- one or the other: all lines are kept, or one is the first that is not
   pub data Fate (before : List Rec) (ps : List Piece) : Type 0 where
     passes : Kept before ps → Fate before ps
     stops : (os : List Piece) (p : Piece) (qs : List Piece) (n f : ℕ) → ps ≡ os ++ (p ∷ qs) → Kept before os
         → FirstBroken (here e room (recs e before os) p) n f order → Fate before ps
 
-  fate-on : (before : List Rec) (p : Piece) (ps : List Piece) → first order (here e room before p) ≡ keeps → Fate (recOf e before p ∷ before) ps
-      → Fate before (p ∷ ps)
+  fate-on : (before : List Rec) (p : Piece) (ps : List Piece) → first order (here e room before p) ≡ keeps
+      → Fate (recOf e before p ∷ before) ps → Fate before (p ∷ ps)
   fate-on before p ps k (passes h) = passes (k, h)
   fate-on before p ps k (stops os q qs n f s h b) = stops (p ∷ os) q qs n f (ap (λ l. p ∷ l) s) (k, h) b
 
   pub fate : (before : List Rec) (ps : List Piece) → Fate before ps
   fate before [] = passes tt
-  fate before (p ∷ ps) = go (first order (here e room before p)) refl (fate (recOf e before p ∷ before) ps)
-    where
-      go : (x : Found) → first order (here e room before p) ≡ x → Fate (recOf e before p ∷ before) ps → Fate before (p ∷ ps)
-      go keeps q ih = fate-on before p ps q ih
-      go (breaks n f) q ih = stops [] p ps n f refl tt (first-broken order (here e room before p) n f q)
+  fate before (p ∷ ps) =
+      ⊎-elim (λ q. fate-on before p ps q (fate (recOf e before p ∷ before) ps))
+      (λ b. stops [] p ps (b .0) (b .1) refl tt (first-broken order (here e room before p) (b .0) (b .1) (b .2)))
+      (found-cases (first order (here e room before p)))
 
   -- a file
   pub kept-verdict : (file : Text) → Kept [] (pieces file) → verdict e file room ≡ noBytesLeft (recs e [] (pieces file))
   unfolding verdict run
   kept-verdict file k = ap (run e room []) (sym (append-nil (pieces file))) ∙ run-kept [] (pieces file) [] k
 
+  -- a line that breaks a rule decides, whatever follows
   pub stops-verdict : (file : Text) (os : List Piece) (p : Piece) (qs : List Piece) (n f : ℕ) → pieces file ≡ os ++ (p ∷ qs) → Kept [] os
       → FirstBroken (here e room (recs e [] os) p) n f order → verdict e file room ≡ refused (recs e [] os) n f
-  unfolding verdict
-  stops-verdict file os p qs n f s k b = ap (run e room []) s ∙ run-stops [] os p qs n f k b
+  unfolding verdict afterLine
+  stops-verdict file os p qs n f s k b =
+      ap (run e room []) s ∙ run-kept [] os (p ∷ qs) k ∙ run-line (recs e [] os) p qs (breaks n f) (broken-first b)
 
   -- each line by itself, and all of them together
-  pub kept-at : (before : List Rec) (ps : List Piece) → Kept before ps → (os : List Piece) (p : Piece) (qs : List Piece) → ps ≡ os ++ (p ∷ qs)
+  pub kept-at : (before : List Rec) (os : List Piece) (p : Piece) (qs : List Piece) → Kept before (os ++ (p ∷ qs))
       → first order (here e room (recs e before os) p) ≡ keeps
-  kept-at before [] k [] p qs s = absurd (nil≢cons s)
-  kept-at before [] k (o ∷ os) p qs s = absurd (nil≢cons s)
-  kept-at before (x ∷ ps) k [] p qs s = subst (λ y. first order (here e room before y) ≡ keeps) (head-eq-of-cons-eq s) (k .0)
-  kept-at before (x ∷ ps) k (o ∷ os) p qs s =
-      subst (λ y. first order (here e room (recs e (recOf e before y ∷ before) os) p) ≡ keeps) (head-eq-of-cons-eq s)
-      (kept-at (recOf e before x ∷ before) ps (k .1) os p qs (tail-eq-of-cons-eq s))
+  kept-at before [] p qs k = k .0
+  kept-at before (o ∷ os) p qs k = kept-at (recOf e before o ∷ before) os p qs (k .1)
 
   pub at-kept : (before : List Rec) (ps : List Piece)
-      → ((os : List Piece) (p : Piece) (qs : List Piece) → ps ≡ os ++ (p ∷ qs) → first order (here e room (recs e before os) p) ≡ keeps) → Kept before ps
+      → ((os : List Piece) (p : Piece) (qs : List Piece) → ps ≡ os ++ (p ∷ qs) → first order (here e room (recs e before os) p) ≡ keeps)
+      → Kept before ps
   at-kept before [] h = tt
   at-kept before (p ∷ ps) h = (h [] p ps refl, at-kept (recOf e before p ∷ before) ps (λ os q qs s. h (p ∷ os) q qs (ap (λ l. p ∷ l) s)))
 

@@ -1,19 +1,20 @@
 -- A file that is empty or ends in CR LF: each of its pieces is ended, and what is written after it adds pieces behind them.
 use Prim.Native.Nat.{ℕ, suc, _≤_}
 use mathlib.Core.Path.{_≡_, refl, ap, _∙_}
-use mathlib.Core.Bool.{Bool, true, false, _&&_, false≢true}
-use mathlib.Core.Logic.{_≢_}
+use mathlib.Core.Bool.{true, false, _&&_, false≢true, and-false}
+use mathlib.Core.Logic.{_≢_, ⊎-elim}
 use mathlib.Core.List.{List, [], _∷_, _++_, append-nil}
 use native.Mathlib.Omega.{arith}
 use native.Mathlib.Nat.{not-suc-le-zero}
 use lib.Dec.{eqb}
 use lib.ListN.{length}
 use borrow.Author.Tests.{ne-eqb}
-use Rattle.dirf.specs.Bytes.{if_then_else_, Text}
+use Rattle.dirf.specs.Bytes.{Text}
 use Rattle.dirf.specs.Limits.{CR, LF, lineEnd}
 use Rattle.dirf.specs.Lines.{Piece, push, pieces}
 use Rattle.dirf.specs.Theorems.Plain.{NoLineEnd}
 use Rattle.dirf.specs.Theorems.GoodSoFar.{Whole, empty, ends-in-CR-LF, lineEnds}
+use Rattle.dirf.proofs.Bools.{if-cases, true-or-false}
 use Rattle.dirf.proofs.Says.{it, on}
 
 abbrev pub AllEnded : List Piece → Type 0
@@ -32,15 +33,12 @@ pub pieces-append : (a b : Text) → AllEnded (pieces a) → pieces (a ++ b) ≡
 unfolding pieces push
 pieces-append [] b h = refl
 pieces-append (x ∷ []) b h = absurd (false≢true (h .0))
-pieces-append (x ∷ y ∷ s) b h = go (eqb x CR && eqb y LF) (pieces-append s b) (pieces-append (y ∷ s) b) h
-  where
-    go : (t : Bool) → (AllEnded (pieces s) → pieces (s ++ b) ≡ pieces s ++ pieces b)
-        → (AllEnded (pieces (y ∷ s)) → pieces (y ∷ s ++ b) ≡ pieces (y ∷ s) ++ pieces b)
-        → AllEnded (if t then emptyLine ∷ pieces s else push x (pieces (y ∷ s)))
-        → (if t then emptyLine ∷ pieces (s ++ b) else push x (pieces (y ∷ s ++ b)))
-        ≡ (if t then emptyLine ∷ pieces s else push x (pieces (y ∷ s))) ++ pieces b
-    go true f g k = ap (λ ps. emptyLine ∷ ps) (f (k .1))
-    go false f g k = let e = push-ended x (pieces (y ∷ s)) (pieces b) k in ap (push x) (g (e .0)) ∙ e .1
+pieces-append (x ∷ y ∷ s) b h =
+    ⊎-elim (λ q. rw q (ap (λ ps. emptyLine ∷ ps) (pieces-append s b ((rw q at h) .1))))
+    (λ q.
+    let e = push-ended x (pieces (y ∷ s)) (pieces b) (rw q at h) in
+    rw q (ap (push x) (pieces-append (y ∷ s) b (e .0)) ∙ e .1))
+    (true-or-false (eqb x CR && eqb y LF))
 
 push-length : (x : ℕ) (ps : List Piece) → AllEnded (push x ps) → length (push x ps) ≡ length ps
 unfolding push
@@ -52,14 +50,12 @@ pub line-count : (a : Text) → AllEnded (pieces a) → length (pieces a) ≡ li
 unfolding pieces push lineEnds
 line-count [] h = refl
 line-count (x ∷ []) h = absurd (false≢true (h .0))
-line-count (x ∷ y ∷ s) h = go (eqb x CR && eqb y LF) (line-count s) (line-count (y ∷ s)) h
-  where
-    go : (t : Bool) → (AllEnded (pieces s) → length (pieces s) ≡ lineEnds s)
-        → (AllEnded (pieces (y ∷ s)) → length (pieces (y ∷ s)) ≡ lineEnds (y ∷ s))
-        → AllEnded (if t then emptyLine ∷ pieces s else push x (pieces (y ∷ s)))
-        → length (if t then emptyLine ∷ pieces s else push x (pieces (y ∷ s))) ≡ (if t then suc (lineEnds s) else lineEnds (y ∷ s))
-    go true f g k = ap suc (f (k .1))
-    go false f g k = push-length x (pieces (y ∷ s)) k ∙ g (push-ended x (pieces (y ∷ s)) [] k .0)
+line-count (x ∷ y ∷ s) h =
+    ⊎-elim (λ q. rw q (ap suc (line-count s ((rw q at h) .1))))
+    (λ q.
+    let k = rw q at h in
+    rw q (push-length x (pieces (y ∷ s)) k ∙ line-count (y ∷ s) (push-ended x (pieces (y ∷ s)) [] k .0)))
+    (true-or-false (eqb x CR && eqb y LF))
 
 -- all ended, and at least one
 abbrev Good : List Piece → Type 0
@@ -76,17 +72,10 @@ ended-line ps h = ((refl, h), omega arith)
 ends-good : (s : Text) → Good (pieces (s ++ lineEnd))
 unfolding pieces push
 ends-good [] = ended-line [] tt
-ends-good (x ∷ []) = go (eqb x CR)
-  where
-    go : (t : Bool) → Good (if t && false then emptyLine ∷ pieces (LF ∷ []) else push x (pieces lineEnd))
-    go true = push-good x (pieces lineEnd) (ended-line [] tt)
-    go false = push-good x (pieces lineEnd) (ended-line [] tt)
-ends-good (x ∷ y ∷ s) = go (eqb x CR && eqb y LF) (ends-good s) (ends-good (y ∷ s))
-  where
-    go : (t : Bool) → Good (pieces (s ++ lineEnd)) → Good (pieces (y ∷ s ++ lineEnd))
-        → Good (if t then emptyLine ∷ pieces (s ++ lineEnd) else push x (pieces (y ∷ s ++ lineEnd)))
-    go true f g = ended-line (pieces (s ++ lineEnd)) (f .0)
-    go false f g = push-good x (pieces (y ∷ s ++ lineEnd)) g
+ends-good (x ∷ []) = rw (and-false (eqb x CR)) (push-good x (pieces lineEnd) (ended-line [] tt))
+ends-good (x ∷ y ∷ s) =
+    if-cases Good (eqb x CR && eqb y LF) (λ _. ended-line (pieces (s ++ lineEnd)) (ends-good s .0))
+    (λ _. push-good x (pieces (y ∷ s ++ lineEnd)) (ends-good (y ∷ s)))
 
 pub whole-ended : {s : Text} → Whole s → AllEnded (pieces s)
 unfolding pieces
@@ -106,10 +95,12 @@ pieces-front [] r q qs n e = e
 pieces-front (b ∷ c) r q qs n e = pieces-push b (c ++ r) (n b it .0) ∙ ap (push b) (pieces-front c r q qs (λ x m. n x (on m)) e)
 
 -- a line with its CR LF is one piece
-pub line-piece : (line rest : Text) → NoLineEnd line → pieces (line ++ (CR ∷ LF ∷ rest)) ≡ record { body = line; ended = true } ∷ pieces rest
+pub line-piece : (line rest : Text) → NoLineEnd line
+    → pieces (line ++ (CR ∷ LF ∷ rest)) ≡ record { body = line; ended = true } ∷ pieces rest
 unfolding pieces
 line-piece line rest n =
-    pieces-front line (CR ∷ LF ∷ rest) emptyLine (pieces rest) n refl ∙ ap (λ l. record { body = l; ended = true } ∷ pieces rest) (append-nil line)
+    pieces-front line (CR ∷ LF ∷ rest) emptyLine (pieces rest) n refl
+    ∙ ap (λ l. record { body = l; ended = true } ∷ pieces rest) (append-nil line)
 
 -- bytes with no line end at all are one piece that is not ended
 pub rest-piece : (b : ℕ) (s : Text) → NoLineEnd (b ∷ s) → pieces (b ∷ s) ≡ record { body = b ∷ s; ended = false } ∷ []

@@ -16,26 +16,24 @@ use Rattle.dirf.specs.Edition.{Edition, nameOf, rowsOf, isBase}
 use Rattle.dirf.specs.Lines.{Piece, pieces, clean, fields, field}
 use Rattle.dirf.specs.Fields.{obligatoryFieldEmpty, notAValidValue, fieldOrder}
 use Rattle.dirf.specs.Conditions.{conditionOrder}
-use Rattle.dirf.specs.Rules.{keeps, Contents, Rule, gives, fieldByField, conditions}
-use Rattle.dirf.specs.Rules.{askField, askFields, askConditions, ask, first}
+use Rattle.dirf.specs.Rules.{keeps, Contents, Rule, gives, fieldByField, conditions, askField, askFields, askConditions, ask, first}
 use Rattle.dirf.specs.Tree.{Rec}
 use Rattle.dirf.specs.Order.{Here, contentsOf, kindOfLine, here, lineTooLong, inputEnds, strayLineEnd, noBarAtTheEnd}
 use Rattle.dirf.specs.Order.{identifierUnknown, leftForLater, wrongNumberOfFields, order}
 use Rattle.dirf.specs.FieldReader.{widthOf}
 use Rattle.dirf.specs.Written.{writes}
 use Rattle.dirf.specs.Tables.{longest}
-use Rattle.dirf.specs.LineWriter.{cut, sum, joined, lineOf, Writing, writing, noBaseKind, lengthsDoNotAddUp}
-use Rattle.dirf.specs.LineWriter.{outputTooSmall, writerOrder, writeLine}
+use Rattle.dirf.specs.LineWriter.{cut, sum, joined, lineOf, Writing, writing, noBaseKind, lengthsDoNotAddUp, outputTooSmall}
+use Rattle.dirf.specs.LineWriter.{writerOrder, writeLine}
 use Rattle.dirf.specs.Theorems.Plain.{_∈_, NoLineEnd, wholeLine}
 use Rattle.dirf.specs.Theorems.Sound.{firstOf, Sound}
 use Rattle.dirf.specs.Theorems.Answered.{TestsSay}
-use Rattle.dirf.specs.Theorems.ThereAndBack.{ofTheLine, Sound-line, ReadsBack, WriterReadsBack}
-use Rattle.dirf.specs.Theorems.ThereAndBack.{together, ReaderWritesBack}
+use Rattle.dirf.specs.Theorems.ThereAndBack.{ofTheLine, Sound-line, ReadsBack, WriterReadsBack, together, ReaderWritesBack}
 use Rattle.dirf.proofs.Says.{isIn-says}
 use Rattle.dirf.proofs.Lists.{listed, Each, none, _also_, of-each}
-use Rattle.dirf.proofs.Asked.{given-false, given-keeps, or-else-left, one-kept, all-kept, first-tries}
-use Rattle.dirf.proofs.Asked.{rule-kept, field-kept, numbersPass, first-passes, nothing-found}
-use Rattle.dirf.proofs.Given.{given-number, keeps-gives-none, none-given-keeps}
+use Rattle.dirf.proofs.Asked.{given-false, given-keeps, or-else-left, one-kept, all-kept, first-tries, rule-kept, field-kept}
+use Rattle.dirf.proofs.Asked.{numbersPass, given-number, first-passes, nothing-found}
+use Rattle.dirf.proofs.Given.{keeps-gives-none, none-given-keeps}
 use Rattle.dirf.proofs.Base.{named-base, base-not-later, base-not-zero, base-named, base-identifier-first}
 use Rattle.dirf.proofs.KeptFields.{own-name, fields-fit}
 use Rattle.dirf.proofs.CleanLaws.{clean-whole, nothing-unclean}
@@ -51,7 +49,9 @@ module _ (e : Edition) (tests : TestsSay e) (p : Piece) where
   kept-sound each room before n f i b =
       let g = tests room before p n f .0 b in
       ⊎-elim
-      (λ other. true≢false (sym (isIn-says n ofTheLine .1 i) ∙ not-true (isIn n ofTheLine) (given-number (λ m. not (isIn m ofTheLine)) (g .2) other)))
+      (λ other.
+      let no-own = given-number (λ m. not (isIn m ofTheLine)) (g .2) other in
+      true≢false (sym (isIn-says n ofTheLine .1 i) ∙ not-true (isIn n ofTheLine) no-own))
       (λ kept. keeps-gives-none kept (g .2))
       (of-each (each room before) (g .0) (g .1))
 
@@ -59,7 +59,9 @@ module _ (e : Edition) (tests : TestsSay e) (p : Piece) where
       → ask r (here e room before p) ≡ keeps
   sound-kept right room before r m own =
       none-given-keeps (here e room before p) r
-      λ n f g. right room before n f (isIn-says n ofTheLine .0 (given-number (λ m. isIn m ofTheLine) g own)) (tests room before p n f .1 (r, m, g))
+      λ n f g.
+      let i = isIn-says n ofTheLine .0 (given-number (λ m. isIn m ofTheLine) g own) in
+      right room before n f i (tests room before p n f .1 (r, m, g))
 
 -- contents that keep the rules which the line writer and the check share
 record Kept (c : Contents) : Type 0 where
@@ -125,20 +127,17 @@ module _ (e : Edition) (sound : Sound e) (tests : TestsSay e) (k : ℕ) (cells :
   line-clean : NoLineEnd (joined cells)
   line-clean = joined-clean (fit .0)
 
-  line-short : length (clean (joined cells)) ≤ 1024
-  line-short = rw (clean-whole (joined cells) line-clean, length-joined cells) (omega (arith, fit .1, sound .rows .lines k))
-
-  line-barred : endsWith bar (joined cells) ≡ true
-  line-barred = rw (headed .1) (ends-joined (nameOf e k) (headed .0))
-
   line-kept : (room : ℕ) (before : List Rec) → LineKept (here e room before (wholeLine (joined cells)))
   unfolding order here ask lineTooLong inputEnds strayLineEnd noBarAtTheEnd identifierUnknown leftForLater contentsOf isIn some isEmpty
   line-kept room before =
       let h = here e room before (wholeLine (joined cells)) in
-      let k4 : lineTooLong h ≡ false = le-ltb 1024 _ line-short in
+      let whole = clean-whole (joined cells) line-clean in
+      let short : length (clean (joined cells)) ≤ 1024 = rw (whole, length-joined cells) (omega (arith, fit .1, sound .rows .lines k)) in
+      let k4 : lineTooLong h ≡ false = le-ltb 1024 _ short in
       let k5 : inputEnds h ≡ false = refl in
       let k6 : strayLineEnd h ≡ false = rw (nothing-unclean (joined cells) .1 line-clean) in
-      let k8 : noBarAtTheEnd h ≡ false = rw line-barred in
+      let barred : endsWith bar (joined cells) ≡ true = rw (headed .1) (ends-joined (nameOf e k) (headed .0)) in
+      let k8 : noBarAtTheEnd h ≡ false = rw barred in
       let k9 : identifierUnknown h ≡ false = rw same-kind (base-not-zero e k base sound) in
       let k10 : leftForLater h ≡ false = rw same-kind (base-not-later e k base) in
       let k11 : Kept (h .contents) = rw (same-kind, same-fields) kept in
@@ -175,39 +174,25 @@ unfolding sum together
 sum-together [] = refl
 sum-together (c ∷ cs) = rw (sum-together cs) (sym (length-append c (together cs)))
 
--- a line that breaks no rule of a line
-module _ (e : Edition) (tests : TestsSay e) (line : Text) (right : Sound-line e (wholeLine line)) where
-  kept-here : (r : Rule Here) → r ∈ order → numbersPass (λ n. isIn n ofTheLine) r ≡ true → ask r (here e 0 [] (wholeLine line)) ≡ keeps
-  kept-here = sound-kept e tests (wholeLine line) right 0 []
-
-  line-whole : joined (fields line) ≡ line
-  unfolding order here ask noBarAtTheEnd isIn some
-  line-whole = joined-fields line (not-false _ (given-false 8 0 _ (kept-here (gives 8 0 noBarAtTheEnd) (search listed depth 30) refl)))
-
-  line-base : isBase e (kindOfLine e line) ≡ true
-  unfolding order here ask identifierUnknown leftForLater contentsOf kindOfLine isIn some
-  line-base =
-      named-base e (field 1 (fields line))
-      (given-false 9 1 _ (kept-here (gives 9 1 identifierUnknown) (search listed depth 30) refl))
-      (given-false 10 1 _ (kept-here (gives 10 1 leftForLater) (search listed depth 30) refl))
-
-  line-contents : Kept (contentsOf e (kindOfLine e line) (fields line))
-  unfolding order here ask every isIn some fieldOrder
-  line-contents =
-      record {
-        counted = given-false 11 0 _ (kept-here (gives 11 0 (λ h. wrongNumberOfFields (h .contents))) (search listed depth 30) refl);
-        asked = kept-here (fieldByField fieldOrder (λ h. h .contents)) (search listed depth 30) refl;
-        conditioned = kept-here (conditions 19 conditionOrder (λ h. h .contents)) (search listed depth 30) refl;
-      }
-
+-- a line that breaks no rule of a line: it is its fields joined, its kind is of the base, and its contents keep the writer's rules
 pub reader-writes-back : (e : Edition) → Sound e → TestsSay e → ReaderWritesBack e
-unfolding writeLine writing writes lineOf contentsOf
+unfolding writeLine writing writes lineOf contentsOf kindOfLine order here ask noBarAtTheEnd identifierUnknown leftForLater
+    every isIn some fieldOrder
 reader-writes-back e _ tests line room right fits =
+    let kept-here = sound-kept e tests (wholeLine line) right 0 [] in
+    let k8 = given-false 8 0 _ (kept-here (gives 8 0 noBarAtTheEnd) (search listed depth 30) refl) in
+    let k9 = given-false 9 1 _ (kept-here (gives 9 1 identifierUnknown) (search listed depth 30) refl) in
+    let k10 = given-false 10 1 _ (kept-here (gives 10 1 leftForLater) (search listed depth 30) refl) in
     let cells = fields line in
-    let ns = map length cells in
     let c = contentsOf e (kindOfLine e line) cells in
-    let w : Writing = record { edition = e; contents = c; lengths = ns; given = together cells; room = room } in
-    let whole = line-whole e tests line right in
+    let kept : Kept c =
+    record {
+      counted = given-false 11 0 _ (kept-here (gives 11 0 (λ h. wrongNumberOfFields (h .contents))) (search listed depth 30) refl);
+      asked = kept-here (fieldByField fieldOrder (λ h. h .contents)) (search listed depth 30) refl;
+      conditioned = kept-here (conditions 19 conditionOrder (λ h. h .contents)) (search listed depth 30) refl;
+    } in
+    let w : Writing = record { edition = e; contents = c; lengths = map length cells; given = together cells; room = room } in
+    let whole = joined-fields line (not-false _ k8) in
     let enough : length (lineOf cells) ≤ room = rw (whole, length-append) fits in
-    let found = writer-keeps w (line-base e tests line right) (line-contents e tests line right) (sum-together cells) enough in
+    let found = writer-keeps w (named-base e (field 1 cells) k9 k10) kept (sum-together cells) enough in
     rw (cut-together cells, found, whole)

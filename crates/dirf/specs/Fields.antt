@@ -117,5 +117,6 @@ fieldOrder =
 
 -- to compute with this file: `unfolding fields-opens`
 unfoldable pub fields-opens : Unit {0}
-unfolding isObligatory rightByte fillsTo sizeHeld takesNoZero dated valid filled obligatoryFieldEmpty byteOfTheWrongKind wrongSize zeroInFront noSuchDate notAValidValue fieldOrder
+unfolding isObligatory rightByte fillsTo sizeHeld takesNoZero dated valid filled obligatoryFieldEmpty byteOfTheWrongKind
+    wrongSize zeroInFront noSuchDate notAValidValue fieldOrder
 fields-opens = tt

@@ -144,7 +144,8 @@ order = limits ++ lineEnds ++ kind ++ place ++ over (λ h. h .contents) (fieldCo
 
 -- to compute with this file: `unfolding order-opens`; `line-opens` leaves shut what looks at the lines before
 unfoldable pub line-opens : Unit {0}
-unfolding contentsOf kindOfLine here lineNumber bytesFollowFIMDirf tooManyLines lineTooLong nothingOrCR inputEnds strayLineEnd noBarAtTheEnd identifierUnknown leftForLater mayNotStandHere wrongNumberOfFields valueRecordRepeated keyNotGreater noRoom order
+unfolding contentsOf kindOfLine here lineNumber bytesFollowFIMDirf tooManyLines lineTooLong nothingOrCR inputEnds strayLineEnd
+    noBarAtTheEnd identifierUnknown leftForLater mayNotStandHere wrongNumberOfFields valueRecordRepeated keyNotGreater noRoom order
 line-opens = tt
 
 unfoldable pub order-opens : Unit {0}

@@ -1,27 +1,15 @@
 -- The places along a list of lengths: one at a time, and what stands there in a text that the lengths add up to.
-use Prim.Native.Nat.{ℕ, _+_, _≤_, _<_, min}
+use Prim.Native.Nat.{ℕ, _+_, _≤_, min}
 use mathlib.Core.Path.{_≡_, refl, _∙_}
 use mathlib.Core.List.{List, [], _∷_, _++_, append-assoc, append-nil}
-use native.Mathlib.Numerals.{add-one}
 use native.Mathlib.Omega.{arith}
-use lib.ListN.{length, getD, drop, drop-of-length-le}
-use lib.Seq.{drop-cons, drop-drop}
+use lib.ListN.{length, drop}
+use lib.Seq.{drop-drop}
 use Rattle.dirf.specs.Bytes.{Text}
 use Rattle.dirf.specs.LineWriter.{cut, sum}
 use Rattle.fields.specs.declared.Places.{Places}
 use Rattle.fields.specs.Places.{partOf, mostFields, noPlaces, addPlace, alongFrom, placesAlong, cellsFrom, cellsAt}
 use Rattle.fields.proofs.PlaceLaws.{Fifteen, fifteen-more, cells-more}
-
-module _ (ns : List ℕ) (i at : ℕ) (p : Places) where
-  pub along-on : i < length ns
-      → alongFrom (drop i ns) at p
-      ≡ alongFrom (drop (i + 1) ns) (min (at + getD ns i 0) 18446744073709551615) (addPlace p at (getD ns i 0))
-  unfolding alongFrom
-  along-on h = rw (drop-cons ns i 0, add-one)
-
-  pub along-end : length ns ≤ i → alongFrom (drop i ns) at p ≡ p
-  unfolding alongFrom
-  along-end h = rw (drop-of-length-le ns h)
 
 -- from byte `at` on: the cells so far, then the rest of the text cut; no start is capped inside a text
 module _ (text : Text) (small : length text ≤ 18446744073709551615) where

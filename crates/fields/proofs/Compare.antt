@@ -1,15 +1,15 @@
 -- Two texts compared a byte at a time, from byte i on.
 use Prim.Native.Nat.{ℕ, _+_, _≤_, _<_}
-use mathlib.Core.Path.{_≡_, refl, ap}
-use mathlib.Core.Bool.{Bool, true, false, or-false}
+use mathlib.Core.Path.{_≡_, ap}
+use mathlib.Core.Bool.{true, false, or-false}
 use native.Mathlib.Numerals.{add-one}
 use native.Mathlib.Omega.{arith}
 use lib.Dec.{ltb}
 use lib.ListN.{length, getD, drop, drop-of-length-le}
 use lib.Seq.{drop-cons}
-use borrow.Author.Tests.{eq-eqb, ne-eqb, le-ltb, ltb-true, ltb-false}
+use borrow.Author.Tests.{eq-eqb, ne-eqb, lt-ltb, le-ltb}
 use Rattle.dirf.specs.Bytes.{Text, same, less}
-use Rattle.dirf.proofs.Says.{denies, same-says}
+use Rattle.dirf.proofs.Says.{denies, below-or, same-says}
 
 pub same-longer : (a b : Text) → (length a ≡ length b → ⊥) → same a b ≡ false
 same-longer a b h = denies (same a b) (same-says a b) .1 (λ e. h (ap length e))
@@ -46,8 +46,6 @@ module _ (a b : Text) (i : ℕ) where
 
   pub less-end : length a ≤ i → less (drop i a) (drop i b) ≡ ltb i (length b)
   unfolding less
-  less-end h = go (ltb i (length b)) refl
-    where
-      go : (t : Bool) → ltb i (length b) ≡ t → less (drop i a) (drop i b) ≡ t
-      go true e = let k = ltb-true i (length b) e in rw (drop-of-length-le a h, drop-cons b i 0)
-      go false e = rw (drop-of-length-le a h, drop-of-length-le b (ltb-false i (length b) e))
+  less-end h =
+      below-or (length b) i (λ k. rw (lt-ltb i (length b) k, drop-of-length-le a h, drop-cons b i 0))
+      (λ k. rw (le-ltb i (length b) k, drop-of-length-le a h, drop-of-length-le b k))

@@ -2,15 +2,7 @@
 use mathlib.Core.Path.{_≡_, sym, _∙_}
 use Prim.Native.Nat.{ℕ}
 use denote.Ref.{RefT, now, ptr}
-use Rattle.fields.proofs.part.Reads as part
-use Rattle.fields.proofs.same.Reads as same
-use Rattle.fields.proofs.key_less.Reads as key-less
-use Rattle.fields.proofs.key_count.Reads as key-count
-use Rattle.fields.proofs.place_of.Reads as place-of
-use Rattle.fields.proofs.field.Reads as field
-use Rattle.fields.proofs.field_there.Reads as field-there
-use Rattle.fields.proofs.scan.Reads as scan
-use Rattle.fields.proofs.places_along.Reads as places-along
+use Rattle.fields.proofs as fields
 
 -- what a contract ensures is asked of lifetimes, arguments, a result and the parameters at exit
 module _ {K : Type 0} {A X S : K → Type 0} (ensures : (κs : K) → A κs → X κs → S κs → Type 0) where
@@ -36,30 +28,30 @@ pub by-parts : {X : Type 0} (x y : RefT X) {l : X} {b o : ℕ} → (now x ≡ l)
     → (now y ≡ l) × ((ptr y .0 ≡ b) × (ptr y .1 ≡ o)) → (now x ≡ now y) × (ptr x ≡ ptr y)
 by-parts x y p q = (p .0 ∙ sym (q .0), λ i. ((p .1 .0 ∙ sym (q .1 .0)) i, (p .1 .1 ∙ sym (q .1 .1)) i))
 
-pub part-one : OnePlace part.Post
+pub part-one : OnePlace fields.part.Reads.Post
 part-one κs a x y s t p q = by-parts x y p q
 
-pub field-one : OnePlace field.Post
+pub field-one : OnePlace fields.field.Reads.Post
 field-one κs a x y s t p q = by-parts x y p q
 
 -- where a contract is one equation for the result, two results are equal by way of what it names
-pub same-one : One same.Post
+pub same-one : One fields.same.Reads.Post
 same-one κs a x y s t p q = p ∙ sym q
 
-pub key-less-one : One key-less.Post
+pub key-less-one : One fields.key_less.Reads.Post
 key-less-one κs a x y s t p q = p ∙ sym q
 
-pub key-count-one : One key-count.Post
+pub key-count-one : One fields.key_count.Reads.Post
 key-count-one κs a x y s t p q = p ∙ sym q
 
-pub place-of-one : One place-of.Post
+pub place-of-one : One fields.place_of.Reads.Post
 place-of-one κs a x y s t p q = p ∙ sym q
 
-pub field-there-one : One field-there.Post
+pub field-there-one : One fields.field_there.Reads.Post
 field-there-one κs a x y s t p q = p ∙ sym q
 
-pub scan-one : One scan.Post
+pub scan-one : One fields.scan.Reads.Post
 scan-one κs a x y s t p q = p ∙ sym q
 
-pub places-along-one : One places-along.Post
+pub places-along-one : One fields.places_along.Reads.Post
 places-along-one κs a x y s t p q = p ∙ sym q

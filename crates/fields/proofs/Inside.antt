@@ -1,17 +1,16 @@
 -- What stands at a place is the field, and where there is no field, nothing.
-use Prim.Native.Nat.{ℕ, zero, suc, _+_, _-_, _≤_}
-use mathlib.Core.Path.{_≡_, refl, sym, ap, _∙_}
-use mathlib.Core.Bool.{Bool, true, false}
+use Prim.Native.Nat.{ℕ, suc, _+_, _-_, _≤_}
+use mathlib.Core.Path.{_≡_, sym, ap, _∙_}
 use mathlib.Core.List.{[], _∷_}
 use native.Mathlib.Omega.{arith}
-use lib.Dec.{eqb, ltb}
-use lib.ListN.{length, getD, take, drop, replicate, List·getD-eq-default}
+use lib.Dec.{eqb}
+use lib.ListN.{length, getD, take, drop, replicate, length-replicate, getD-replicate, List·getD-eq-default}
 use lib.Seq.{getD-set-other}
-use borrow.Author.Tests.{ltb-true, ltb-false}
 use Rattle.dirf.specs.Bytes.{Text}
 use Rattle.dirf.specs.Limits.{bar}
 use Rattle.dirf.specs.Lines.{fields, field}
 use Rattle.dirf.proofs.Bools.{if-cases}
+use Rattle.dirf.proofs.Says.{below-or}
 use Rattle.fields.specs.Places.{partOf, mostFields, noPlaces, addPlace, placesFrom, placesOf, cellAt}
 use Rattle.fields.specs.declared.Places.{Places}
 use Rattle.fields.proofs.PlaceLaws.{places-count, places-cells, cell-at}
@@ -32,9 +31,8 @@ ended-from (b ∷ s) start at p w =
     (λ _. ended-from s start (at + 1) p w)
 
 nothing : (n i : ℕ) → _≡_ {A = ℕ} (getD (replicate n 0) i 0) 0
-nothing zero i = refl
-nothing (suc n) zero = refl
-nothing (suc n) (suc i) = nothing n i
+nothing n i =
+    below-or n i (getD-replicate n i 0 0) (λ h. List·getD-eq-default (replicate n 0) 0 (simp length-replicate h))
 
 past : (line : Text) → Ended (placesOf line)
 unfolding placesOf noPlaces
@@ -43,16 +41,10 @@ past line = ended-from line 0 0 noPlaces (λ i _. nothing mostFields i)
 -- field i + 1 of a line, at its place
 pub cell-is : (line : Text) (i : ℕ) → length (fields line) ≤ mostFields → cellAt line (placesOf line) i ≡ field (suc i) (fields line)
 unfolding field cellAt partOf
-cell-is line i h = go (ltb i (length (fields line))) refl
-  where
-    p : Places
-    p = placesOf line
-
-    go : (t : Bool) → ltb i (length (fields line)) ≡ t → take (getD (p .lens) i 0) (drop (getD (p .starts) i 0) line) ≡ field (suc i) (fields line)
-    go true t =
-        let l = ltb-true i (length (fields line)) t in
-        sym (cell-at line p i [] (omega (arith, places-count line))) ∙ ap (λ cs. getD cs i []) (places-cells line h)
-    go false t =
-        let l = ltb-false i (length (fields line)) t in
-        ap (λ n. take n (drop (getD (p .starts) i 0) line)) (past line i (omega (arith, places-count line)))
-        ∙ sym (List·getD-eq-default (fields line) [] l)
+cell-is line i h =
+    let p = placesOf line in
+    below-or (length (fields line)) i
+    (λ l. sym (cell-at line p i [] (omega (arith, places-count line))) ∙ ap (λ cs. getD cs i []) (places-cells line h))
+    (λ l.
+    ap (λ n. take n (drop (getD (p .starts) i 0) line)) (past line i (omega (arith, places-count line)))
+    ∙ sym (List·getD-eq-default (fields line) [] l))

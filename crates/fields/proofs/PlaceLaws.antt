@@ -13,8 +13,8 @@ use Rattle.dirf.specs.Lines.{more, fields, field}
 use Rattle.dirf.specs.Keys.{keyOf}
 use Rattle.dirf.proofs.Bools.{if-cases}
 use Rattle.fields.specs.declared.Places.{Places}
-use Rattle.fields.specs.Places.{partOf, mostFields, noPlaces, addPlace, placesFrom, placesOf, cellAt, cellsFrom, cellsAt}
-use Rattle.fields.specs.Places.{keyParts, barIn}
+use Rattle.fields.specs.Places.{partOf, mostFields, noPlaces, addPlace, placesFrom, placesOf, cellAt, cellsFrom, cellsAt, keyParts}
+use Rattle.fields.specs.Places.{barIn}
 use Rattle.fields.proofs.Bars.{cut, uncut}
 use Rattle.fields.proofs.Keys.{by-kind}
 

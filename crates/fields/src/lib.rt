@@ -35,7 +35,8 @@ pub struct Scanned {
 
 // The part at a place, as a part of the caller's own bytes; past the end there is nothing.
 pub fn part(s: &[u8], start: usize, len: usize) -> &[u8]
-    ensures { λ r. ⌜ (now r ≡ partOf (now (s .entry)) start len) × ((ptr r .0 ≡ ptr (s .entry) .0) × (ptr r .1 ≡ ptr (s .entry) .1 + min start (length (now (s .entry))))) ⌝ }
+    ensures { λ r. ⌜ (now r ≡ partOf (now (s .entry)) start len)
+        × ((ptr r .0 ≡ ptr (s .entry) .0) × (ptr r .1 ≡ ptr (s .entry) .1 + min start (length (now (s .entry))))) ⌝ }
 {
     let n = s.len();
     if n <= start {
@@ -173,7 +174,8 @@ pub fn place_of(line: &[u8], k: usize) -> Place
 
 // Field k, as a part of the caller's own line: its bytes, and where in the line they stand.
 pub fn field(line: &[u8], k: usize) -> &[u8]
-    ensures { λ r. ⌜ (now r ≡ fieldOf k (now (line .entry))) × ((ptr r .0 ≡ ptr (line .entry) .0) × (ptr r .1 ≡ ptr (line .entry) .1 + fieldStart k (now (line .entry)))) ⌝ }
+    ensures { λ r. ⌜ (now r ≡ fieldOf k (now (line .entry)))
+        × ((ptr r .0 ≡ ptr (line .entry) .0) × (ptr r .1 ≡ ptr (line .entry) .1 + fieldStart k (now (line .entry)))) ⌝ }
 {
     let p = place_of(line, k);
     let s = p.start;

@@ -1,14 +1,13 @@
 -- An arm of a range in a `match` on a number: what it is told of the number, and one computed test over the numbers that may reach
 -- it, give its answer.
 use Prim.Native.Nat.{ℕ, _-_, _≤_, _<_}
-use mathlib.Core.Path.{_≡_, refl, sym}
-use mathlib.Core.Bool.{Bool, true, false}
+use mathlib.Core.Path.{_≡_, sym}
+use mathlib.Core.Bool.{false}
 use mathlib.Core.List.{List}
 use native.Mathlib.Omega.{arith}
-use lib.Dec.{ltb}
 use lib.ListN.{replicate}
-use borrow.Author.Tests.{ltb-true, ltb-false}
 use Rattle.dirf.specs.Bytes.{if_then_else_, some, isIn}
+use Rattle.dirf.proofs.Says.{below-or}
 use Rattle.fields.proofs.Arms.{NoneOf, none-in}
 use Rattle.layout.specs.Tables.{tab}
 use Rattle.layout.proofs.Tab.{tab-all}
@@ -29,8 +28,4 @@ module _ {A : Type 0} (f : ℕ → A) (v : A) (kss : List (List ℕ)) (lo hi : �
 
   -- a number from `lo` on, where all from `hi` on are alike
   pub from : ((x : ℕ) → hi ≤ x → v ≡ f x) → {x : ℕ} → (lo ≤ x) × NoneOf kss x → v ≡ f x
-  from past {x} (h, n) = go (ltb x hi) refl
-    where
-      go : (b : Bool) → ltb x hi ≡ b → v ≡ f x
-      go true e = between (h, (ltb-true x hi e, n))
-      go false e = past x (ltb-false x hi e)
+  from past {x} (h, n) = below-or hi x (λ l. between (h, (l, n))) (past x)

@@ -10,8 +10,9 @@ use Rattle.dirf.specs.Kinds.{DECPF, DECPJ}
 use Rattle.dirf.specs.Below.{Children, underDECPF, underDECPJ, below2025}
 use Rattle.dirf.specs.Edition.{edition2025, edition-opens}
 use Rattle.dirf.proofs.Bools.{if-cases}
-use Rattle.layout.specs.Tables.{holders, belowTable, nameIn, namesIn, baseIn, nameTable, slotOf, concat, rowsIn, countIn, rowIn, byteIn, rowOf}
-use Rattle.layout.specs.Tables.{formatOf, fillOf, needOf, holdsOf, recordOf, rowBytesOf, formatByte, fillByte, needByte, holdsByte}
+use Rattle.layout.specs.Tables.{holders, belowTable, nameIn, namesIn, baseIn, nameTable, slotOf, concat, rowsIn, countIn, rowIn}
+use Rattle.layout.specs.Tables.{byteIn, rowOf, formatOf, fillOf, needOf, holdsOf, recordOf, rowBytesOf, formatByte, fillByte}
+use Rattle.layout.specs.Tables.{needByte, holdsByte}
 use Rattle.layout.specs.LaidOut.{LaidOut, isKind}
 
 -- a test of the lists below holds if it holds of each declarant's

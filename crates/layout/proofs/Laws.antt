@@ -1,7 +1,7 @@
 -- What callers of the tables need: what any table does, what tables say of an edition, and that an edition's own tables say it.
 use Prim.Native.Nat.{ℕ, _+_, _*_, _≤_, _<_}
 use mathlib.Core.Path.{_≡_, refl, sym, ap, _∙_, subst}
-use mathlib.Core.Bool.{Bool, true, false, _&&_, and-false}
+use mathlib.Core.Bool.{Bool, true, false, and-false}
 use mathlib.Core.List.{List, [], _∷_, _++_}
 use native.Mathlib.Nat.{add-zero, zero-add, min-le-left, lt-of-lt-of-le, not-suc-le-zero}
 use native.Mathlib.Omega.{arith}
@@ -11,16 +11,17 @@ use lib.Seq.{getD-drop}
 use borrow.Author.Tests.{ltb-true, lt-ltb, le-ltb}
 use Rattle.dirf.specs.Bytes.{Text, every, some, same, isIn, lookup}
 use Rattle.dirf.specs.Row.{Row}
-use Rattle.dirf.specs.Below.{Children}
 use Rattle.dirf.specs.Edition.{Edition, kindIn, kindOf, nameOf, rowsOf, isBase}
 use Rattle.dirf.specs.Tree.{mayHold}
 use Rattle.dirf.proofs.Bools.{if-cases}
+use Rattle.dirf.proofs.Says.{below-or}
+use Rattle.dirf.proofs.Tables.{in-table}
 use Rattle.fields.specs.Places.{mostFields}
-use Rattle.layout.specs.Tables.{kinds, holders, nameIn, namesIn, baseIn, nameTable, rowBytes, recordBytes, rowIn, rowsIn, countIn, byteIn}
-use Rattle.layout.specs.Tables.{rowTable, recordOf, yes, yesIn, holdsIn, belowTable}
+use Rattle.layout.specs.Tables.{kinds, holders, nameIn, namesIn, baseIn, nameTable, rowBytes, recordBytes, rowIn, rowsIn, countIn}
+use Rattle.layout.specs.Tables.{byteIn, rowTable, recordOf, yes, yesIn, holdsIn, belowTable}
 use Rattle.layout.specs.LaidOut.{Say, SayBelow, isKind, LaidOut}
 use Rattle.layout.specs.Codes.{rowCodes, rowSaid}
-use Rattle.layout.proofs.Past.{below-or, by-kind, every-first, every-rest, some-past, isIn-past, lookup-past, rows-past}
+use Rattle.layout.proofs.Past.{by-kind, every-first, every-rest, some-past, isIn-past, lookup-past, rows-past}
 use Rattle.layout.proofs.Tab.{tab-at, tab-length, tab-same, tab-each, tab2-at, concat-drop}
 
 -- any table
@@ -50,7 +51,7 @@ pub rows-at : (t : List ℕ) (k i : ℕ) (d : Row) → i < countIn t k → getD 
 unfolding rowsIn
 rows-at t k i d h = tab-at (rowIn t k) d (countIn t k) i h
 
-count-bound : (t : List ℕ) (k : ℕ) → countIn t k ≤ mostFields
+pub count-bound : (t : List ℕ) (k : ℕ) → countIn t k ≤ mostFields
 unfolding countIn
 count-bound t k = if-cases (λ n. n ≤ mostFields) (ltb k kinds) (λ _. min-le-left mostFields _) (λ _. omega arith)
 
@@ -91,13 +92,6 @@ yes-says : (b : Bool) → eqb (yes b) 89 ≡ b
 unfolding yes
 yes-says true = refl
 yes-says false = refl
-
-children : (t : Children) → every (λ r. every isKind (r .1)) t ≡ true → (h : ℕ) → every isKind (lookup [] t h) ≡ true
-unfolding every lookup
-children [] e h = refl
-children (r ∷ t) e h =
-    if-cases (λ xs. every isKind xs ≡ true) (eqb h (r .0)) (λ q. every-first (λ r. every isKind (r .1)) r t e)
-    (λ q. children t (every-rest (λ r. every isKind (r .1)) r t e) h)
 
 -- an edition that is laid out in tables is what its own tables say
 module _ (e : Edition) (l : LaidOut e) where
@@ -141,13 +135,15 @@ module _ (e : Edition) (l : LaidOut e) where
         ∙ yes-says (isIn k (lookup [] (e .below d) h))
 
     yes-below : yesIn (belowTable e d) h k ≡ isIn k (lookup [] (e .below d) h)
-    unfolding yesIn isIn some
+    unfolding yesIn isIn some every
     yes-below =
         below-or holders h
         (λ a.
         by-kind k
         (λ b. rw (lt-ltb h holders a, lt-ltb k kinds b) (yes-there a b))
-        (λ b. simp (le-ltb k kinds b, and-false, isIn-past kinds k b (lookup [] (e .below d) h) (children (e .below d) (l .held d) h))))
+        (λ b.
+        let all = in-table (λ h. every isKind) [] (λ h. refl) (e .below d) (l .held d) h in
+        simp (le-ltb k kinds b, and-false, isIn-past kinds k b (lookup [] (e .below d) h) all)))
         (λ a. rw (le-ltb h holders a, lookup-past holders h a [] (e .below d) (l .holds d)))
 
   pub says-below : (d : ℕ) → SayBelow e d (belowTable e d)

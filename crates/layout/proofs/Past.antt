@@ -5,21 +5,13 @@ use mathlib.Core.Bool.{Bool, true, false}
 use mathlib.Core.List.{List, [], _∷_}
 use native.Mathlib.Omega.{arith}
 use lib.Dec.{eqb, ltb}
-use borrow.Author.Tests.{ltb-true, ltb-false, ne-eqb}
+use borrow.Author.Tests.{ltb-true, ne-eqb}
 use Rattle.dirf.specs.Bytes.{every, some, isIn, lookup}
 use Rattle.dirf.specs.Row.{Row}
 use Rattle.dirf.specs.Edition as edition
 use Rattle.dirf.proofs.Bools.{and-left, and-right}
+use Rattle.dirf.proofs.Says.{below-or}
 use Rattle.layout.specs.Tables.{kinds}
-use Rattle.layout.specs.LaidOut.{isKind}
-
--- below a number, or from it on
-pub below-or : (n : ℕ) {P : Type 0} (k : ℕ) → (k < n → P) → (n ≤ k → P) → P
-below-or n {P} k under past = go (ltb k n) refl
-  where
-    go : (b : Bool) → ltb k n ≡ b → P
-    go true e = under (ltb-true k n e)
-    go false e = past (ltb-false k n e)
 
 -- a kind, 0 included, or past the kinds
 pub by-kind : {P : Type 0} (k : ℕ) → (k < kinds → P) → (kinds ≤ k → P) → P

@@ -2,8 +2,8 @@
 use Prim.Native.Nat.{ℕ, zero, suc, _+_, _-_, _*_, _≤_, _<_}
 use mathlib.Core.Path.{_≡_, refl, sym, ap, _∙_}
 use mathlib.Core.List.{List, [], _∷_, _++_, head-eq-of-cons-eq, tail-eq-of-cons-eq}
-use native.Mathlib.Nat.{add-zero, zero-add, add-suc, suc-add, add-comm, zero-mul, suc-mul}
-use native.Mathlib.Nat.{le-of-suc-le-suc, not-suc-le-zero, sub-eq-zero-of-le}
+use native.Mathlib.Nat.{add-zero, zero-add, add-suc, suc-add, add-comm, zero-mul, suc-mul, le-of-suc-le-suc, not-suc-le-zero}
+use native.Mathlib.Nat.{sub-eq-zero-of-le}
 use native.Mathlib.Numerals.{add-one}
 use native.Mathlib.Omega.{arith}
 use lib.ListN.{length, getD, drop, replicate, getD-replicate}

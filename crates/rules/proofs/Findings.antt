@@ -5,9 +5,8 @@ use mathlib.Core.Logic.{_≢_}
 use mathlib.Core.Bool.{Bool, true, false, _&&_, not, and-assoc}
 use mathlib.Core.List.{List, [], _∷_}
 use native.Mathlib.Omega.{arith}
-use native.Mathlib.Nat.{min-le-left}
 use native.Mathlib.Numerals.{add-one}
-use lib.Dec.{eqb, ltb}
+use lib.Dec.{eqb}
 use lib.ListN.{length, getD, drop, drop-of-length-le}
 use lib.Seq.{drop-cons}
 use borrow.Author.Tests.{ne-eqb}
@@ -16,12 +15,10 @@ use Rattle.dirf.specs.Kinds.{DECPF}
 use Rattle.dirf.specs.Row.{Row}
 use Rattle.dirf.specs.Lines.{field}
 use Rattle.dirf.specs.Fields.{FieldRule, fieldOrder}
-use Rattle.dirf.specs.Conditions.{special, eventDateMissing, eventTypeMissing, deathNotStated, estateStated}
-use Rattle.dirf.specs.Conditions.{conditionOrder, conditions-opens}
+use Rattle.dirf.specs.Conditions.{special, eventDateMissing, eventTypeMissing, deathNotStated, estateStated, conditionOrder}
+use Rattle.dirf.specs.Conditions.{conditions-opens}
 use Rattle.dirf.specs.Rules.{Found, keeps, breaks, given, orElse, askField, askFields, askConditions}
-use Rattle.dirf.proofs.Bools.{if-cases}
-use Rattle.fields.specs.Places.{mostFields}
-use Rattle.layout.specs.Tables.{kinds, countIn, rowsIn}
+use Rattle.layout.specs.Tables.{countIn, rowsIn}
 use Rattle.layout.specs.Codes.{rowCodes, rowSaid}
 use Rattle.layout.proofs.Laws.{row-said, rows-length, rows-at}
 use Rattle.rules.specs.declared.Finding.{Finding}
@@ -65,10 +62,6 @@ module _ (xs : List FieldRule) (name : Text) where
         none : (rs : List Row) → askFields (i + 1) xs name rs [] ≡ keeps
         none [] = refl
         none (r ∷ rs) = refl
-
-pub count-most : (t : List ℕ) (k : ℕ) → countIn t k ≤ mostFields
-unfolding countIn
-count-most t k = if-cases (λ n. n ≤ mostFields) (ltb k kinds) (λ _. min-le-left mostFields _) (λ _. omega arith)
 
 -- what is found from field i + 1 on, by the rows of a table
 abbrev pub fieldsFrom : List ℕ → ℕ → Text → List Text → ℕ → Found

@@ -1,6 +1,6 @@
 -- What callers need of what is found in a record's fields.
 use Prim.Native.Nat.{ℕ}
-use mathlib.Core.Path.{_≡_, refl, ap, _∙_}
+use mathlib.Core.Path.{_≡_, refl, ap}
 use mathlib.Core.Logic.{_≢_}
 use mathlib.Core.List.{List}
 use lib.Dec.{ltb}
@@ -31,11 +31,8 @@ module _ (k : ℕ) (name : Text) (rows : List Row) (cells : List Text) where
   finding-keeps =
       nothing-found (λ x. findingOf x .number) (λ n f. refl) (contentsFound k name rows cells) (first-passes (ltb 0) contents _ refl)
 
-pub finding-breaks : (x : Found) → findingOf x .number ≢ 0 → x ≡ breaks (findingOf x .number) (findingOf x .field)
-unfolding findingOf
-finding-breaks keeps h = absurd (h refl)
-finding-breaks (breaks number field) h = refl
-
 -- of an answer that has a number
 pub finding-says : (x : Found) {f : Finding} → f ≡ findingOf x → f .number ≢ 0 → x ≡ breaks (f .number) (f .field)
-finding-says x q h = rw q (finding-breaks x (λ z. h (ap (λ f. f .number) q ∙ z)))
+unfolding findingOf
+finding-says keeps q h = absurd (h (ap (λ f. f .number) q))
+finding-says (breaks n g) q h = rw q

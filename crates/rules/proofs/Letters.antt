@@ -2,6 +2,7 @@
 use Prim.Native.Nat.{ℕ, _-_, _≤_, _<_}
 use mathlib.Core.Path.{_≡_, refl, sym, ap, _∙_}
 use mathlib.Core.Bool.{Bool, true, false, not, and-true, and-false}
+use mathlib.Core.Logic.{⊎-elim}
 use mathlib.Core.List.{List, [], _∷_, map}
 use lib.Dec.{eqb}
 use lib.ListN.{replicate}
@@ -9,7 +10,7 @@ use borrow.Author.Needs.{zero≤}
 use borrow.Author.Tests.{not-true}
 use Rattle.dirf.specs.Bytes.{Text, every, some, isIn, same, bytes-opens}
 use Rattle.dirf.specs.Fields.{valid}
-use Rattle.dirf.proofs.Bools.{and-left, and-right}
+use Rattle.dirf.proofs.Bools.{and-left, and-right, true-or-false}
 use Rattle.dirf.proofs.Says.{isIn-says}
 use Rattle.dirf.proofs.Lists.{none, _also_, of-each}
 use Rattle.layout.specs.Tables.{tab, holdsOf}
@@ -52,17 +53,15 @@ apart h e n = rw e (none-in words h n)
 
 pub letter-valid : (name s : Text) (h : ℕ) → h < 256 → NoneOf words h → letterOf h s ≡ valid name (holdsOf h) s
 unfolding bytes-opens valid holdsOf letterOf seen
-letter-valid name s h b n = go (isIn h letters) refl
-  where
-    asked : ℕ → Bool × Bool
-    asked h = (letterOf h s, valid name (holdsOf h) s)
-
-    go : (t : Bool) → isIn h letters ≡ t → letterOf h s ≡ valid name (holdsOf h) s
-    go true e =
-        of-each {P = λ k. letterOf k s ≡ valid name (holdsOf k) s}
-        (one-of s (83 ∷ 78 ∷ []) refl also one-of s (48 ∷ 49 ∷ []) refl also one-of s (49 ∷ 50 ∷ []) refl also
-        one-of s (49 ∷ 50 ∷ 51 ∷ []) refl also one-of s (48 ∷ 49 ∷ 50 ∷ 51 ∷ 52 ∷ 56 ∷ []) refl also none)
-        h (isIn-says h letters .0 e)
-    go false e =
-        let p = within asked (true, true) (letters ∷ words) 0 256 refl zero≤ b (apart h e n) in
-        sym (ap (λ x. x .0) p) ∙ ap (λ x. x .1) p
+letter-valid name s h b n =
+    let asked : ℕ → Bool × Bool = λ h. (letterOf h s, valid name (holdsOf h) s) in
+    ⊎-elim
+    (λ e.
+    of-each {P = λ k. letterOf k s ≡ valid name (holdsOf k) s}
+    (one-of s (83 ∷ 78 ∷ []) refl also one-of s (48 ∷ 49 ∷ []) refl also one-of s (49 ∷ 50 ∷ []) refl also
+    one-of s (49 ∷ 50 ∷ 51 ∷ []) refl also one-of s (48 ∷ 49 ∷ 50 ∷ 51 ∷ 52 ∷ 56 ∷ []) refl also none)
+    h (isIn-says h letters .0 e))
+    (λ e.
+    let p = within asked (true, true) (letters ∷ words) 0 256 refl zero≤ b (apart h e n) in
+    sym (ap (λ x. x .0) p) ∙ ap (λ x. x .1) p)
+    (true-or-false (isIn h letters))

@@ -14,8 +14,7 @@ use Rattle.layout.specs.declared.Row.{Row}
 use Rattle.layout.specs.Tables.{formatOf, fillOf, needOf, holdsOf, rowOf}
 use Rattle.layout.specs.Codes.{rowSaid}
 use Rattle.rules.specs.Findings.{numberOf, amountSays}
-use Rattle.rules.proofs.read_amount.Reads as read-amount
-use Rattle.rules.proofs.field_rule.Reads as field-rule
+use Rattle.rules.proofs as rules
 
 -- M9 and M10: a field, and the number and the value that the amount reader answers
 abbrev pub amounts : List (Text × Reading)
@@ -30,7 +29,7 @@ answers : Each (λ (x : Text × Reading). readAmount (x .0) ≡ x .1) amounts
 unfolding bytes-opens numbers-opens fields-opens rules-opens amounts-opens
 answers = refl also refl also refl also refl also none
 
-pub amounts-marked : (κs : _) (a : _) (r : _) (s : _) → read-amount.Post κs a r s → (x : Text × Reading) → x ∈ amounts
+pub amounts-marked : (κs : _) (a : _) (r : _) (s : _) → rules.read_amount.Reads.Post κs a r s → (x : Text × Reading) → x ∈ amounts
     → now (a .0) ≡ x .0 → amountSays r ≡ x .1
 amounts-marked κs a r s e x m f = e .0 ∙ ap readAmount f ∙ of-each answers x m
 
@@ -48,7 +47,7 @@ given : (name : Text) → Each (λ (x : (Row × Text) × ℕ). numberOf (askFiel
 unfolding bytes-opens numbers-opens fields-opens rules-opens formatOf fillOf needOf holdsOf rowOf rowSaid numberOf
 given name = refl also refl also refl also none
 
-pub numbers-marked : (κs : _) (a : _) (r : _) (s : _) → field-rule.Post κs a r s → (x : (Row × Text) × ℕ) → x ∈ numbers
+pub numbers-marked : (κs : _) (a : _) (r : _) (s : _) → rules.field_rule.Reads.Post κs a r s → (x : (Row × Text) × ℕ) → x ∈ numbers
     → a .1 .1 .0 ≡ x .0 .0 → now (a .1 .0) ≡ x .0 .1 → r ≡ x .1
 numbers-marked κs a r s e x m f g =
     e ∙ ap (λ y. numberOf (askField 0 fieldOrder (now (a .0)) (rowSaid y) (now (a .1 .0)))) f

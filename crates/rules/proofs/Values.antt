@@ -1,29 +1,23 @@
 -- The value of digits: a digit at a time, how large it is, and that a day of any size may be capped.
 use Prim.Native.Nat.{ℕ, suc, _+_, _-_, _*_, _^_, _≤_, _<_, min}
 use mathlib.Core.Path.{_≡_, refl, sym}
-use mathlib.Core.Bool.{Bool, true, false}
+use mathlib.Core.Bool.{Bool, true}
+use mathlib.Core.Logic.{⊎-elim}
 use mathlib.Core.List.{List, [], _∷_}
 use native.Mathlib.Nat.{lt-of-lt-of-le, pow-le-pow-right, min-eq-left, min-eq-right}
-use native.Mathlib.Numerals.{add-one}
 use native.Mathlib.Omega.{arith}
-use lib.Dec.{ltb, leb}
-use lib.ListN.{length, getD, drop, drop-of-length-le, List·getD-eq-default}
-use lib.Seq.{drop-cons}
-use borrow.Author.Tests.{ltb-true, ltb-false, leb-true, le-leb, lt-leb}
+use lib.Dec.{leb}
+use lib.ListN.{length, drop, drop-of-length-le, List·getD-eq-default}
+use borrow.Author.Tests.{leb-true, le-leb, lt-leb}
 use Rattle.dirf.specs.Bytes.{if_then_else_, Text, every, isDigit}
 use Rattle.dirf.specs.Numbers.{valueAfter, valueOf, isLeap, daysIn, isDay}
-use Rattle.dirf.proofs.Bools.{and-left, and-right}
+use Rattle.dirf.proofs.Bools.{and-left, and-right, true-or-false}
 use Rattle.dirf.proofs.Lists.{every-at}
-use Rattle.dirf.proofs.Says.{digit-says}
+use Rattle.dirf.proofs.Says.{below-or, digit-says}
 
-module _ (s : Text) (i n : ℕ) where
-  pub value-on : i < length s → valueAfter n (drop i s) ≡ valueAfter (n * 10 + (getD s i 0 - 48)) (drop (i + 1) s)
-  unfolding valueAfter
-  value-on h = rw (add-one, drop-cons s i 0)
-
-  pub value-end : length s ≤ i → valueAfter n (drop i s) ≡ n
-  unfolding valueAfter
-  value-end h = rw (drop-of-length-le s h)
+pub value-end : (s : Text) (i n : ℕ) → length s ≤ i → valueAfter n (drop i s) ≡ n
+unfolding valueAfter
+value-end s i n h = rw (drop-of-length-le s h)
 
 pub value-least : (n : ℕ) (s : Text) → n ≤ valueAfter n s
 unfolding valueAfter
@@ -52,20 +46,15 @@ no-month y m h = sym (List·getD-eq-default (lengths (isLeap y)) 0 h)
 
 days-most : (y m : ℕ) → daysIn y m ≤ 31
 unfolding every daysIn
-days-most y m = leb-true (daysIn y m) 31 (every-at (λ d. leb d 31) (lengths (isLeap y)) m 0 refl (go (isLeap y)))
-  where
-    go : (t : Bool) → every (λ d. leb d 31) (lengths t) ≡ true
-    go true = refl
-    go false = refl
+days-most y m =
+    let all : every (λ d. leb d 31) (lengths (isLeap y)) ≡ true = ⊎-elim (λ e. rw e) (λ e. rw e) (true-or-false (isLeap y)) in
+    leb-true (daysIn y m) 31 (every-at (λ d. leb d 31) (lengths (isLeap y)) m 0 refl all)
 
 -- no month has as many days as the cap
 pub day-capped : (y m d : ℕ) → isDay y m (min (10 ^ 18) d) ≡ isDay y m d
 unfolding isDay
-day-capped y m d = go (ltb d (10 ^ 18)) refl
-  where
-    go : (t : Bool) → ltb d (10 ^ 18) ≡ t → isDay y m (min (10 ^ 18) d) ≡ isDay y m d
-    go true e = let h = ltb-true d (10 ^ 18) e in rw (min-eq-right {n = d} {m = 10 ^ 18} (omega arith))
-    go false e =
-        let h = ltb-false d (10 ^ 18) e in
-        let most = days-most y m in
-        rw (min-eq-left h, le-leb 1 d (omega arith), lt-leb (10 ^ 18) (daysIn y m) (omega arith), lt-leb d (daysIn y m) (omega arith))
+day-capped y m d =
+    below-or (10 ^ 18) d (λ h. rw (min-eq-right {n = d} {m = 10 ^ 18} (omega arith)))
+    (λ h.
+    let most = days-most y m in
+    rw (min-eq-left h, le-leb 1 d (omega arith), lt-leb (10 ^ 18) (daysIn y m) (omega arith), lt-leb d (daysIn y m) (omega arith)))

@@ -20,9 +20,7 @@ use Rattle.dirf.proofs.NumbersBack.{numbers-back}
 use Rattle.dirf.proofs.Demands.{demands2025}
 use Rattle.writer.specs.declared.NumberWritten.{NumberWritten}
 use Rattle.writer.specs.Answers.{numberWritten, lineWritten}
-use Rattle.writer.proofs.write_amount.Reads as amount
-use Rattle.writer.proofs.write_months.Reads as months
-use Rattle.writer.proofs.write_line.Reads as line
+use Rattle.writer.proofs as writer
 
 -- the first bytes of the output, as many as the count says, are those written
 module _ (w : Written) (before : Text) {count : ℕ} {after : Text} (c : count ≡ length (w .bytes)) (o : after ≡ outputAfter w before) where
@@ -60,7 +58,7 @@ unfolding numberWritten
 number-back w before p o read v known e = rw (front w before (ap (λ r. r .count) p) o) (known (sym (ap (λ r. r .number) p) ∙ e))
 
 -- arguments: the number, the output
-module _ (κs : _) (a : _) (r : _) (s : _) (p : amount.Post κs a r s) where
+module _ (κs : _) (a : _) (r : _) (s : _) (p : writer.write_amount.Reads.Post κs a r s) where
   pub amount-back : r .number ≡ 0 → readAmount (take (r .count) (now (s .1 .0))) ≡ record { number = 0; value = a .0 .0 }
   amount-back = number-back _ (now (a .1 .0)) (p .0) (p .1) readAmount _ (numbers-back .amount-back (a .0 .0) (length (now (a .1 .0))))
 
@@ -68,7 +66,7 @@ module _ (κs : _) (a : _) (r : _) (s : _) (p : amount.Post κs a r s) where
   unfolding numberWritten amounts-opens
   amount-careful = careful _ _ (now (a .1 .0)) (ap (λ r. r .number) (p .0)) (ap (λ r. r .count) (p .0)) (p .1)
 
-module _ (κs : _) (a : _) (r : _) (s : _) (p : months.Post κs a r s) where
+module _ (κs : _) (a : _) (r : _) (s : _) (p : writer.write_months.Reads.Post κs a r s) where
   pub months-back : r .number ≡ 0 → readMonths (take (r .count) (now (s .1 .0))) ≡ record { number = 0; value = a .0 .0 }
   months-back = number-back _ (now (a .1 .0)) (p .0) (p .1) readMonths _ (numbers-back .months-back (a .0 .0) (length (now (a .1 .0))))
 
@@ -77,7 +75,7 @@ module _ (κs : _) (a : _) (r : _) (s : _) (p : months.Post κs a r s) where
   months-careful = careful _ _ (now (a .1 .0)) (ap (λ r. r .number) (p .0)) (ap (λ r. r .count) (p .0)) (p .1)
 
 -- arguments: the kind, the contents, the lengths, the output
-module _ (κs : _) (a : _) (r : _) (s : _) (p : line.Post κs a r s) where
+module _ (κs : _) (a : _) (r : _) (s : _) (p : writer.write_line.Reads.Post κs a r s) where
   pub line-back : r .number ≡ 0
       → ReadsBack edition2025 (a .0) (now (a .1 .0)) (now (a .1 .1 .0)) (take (r .count) (now (s .1 .1 .1 .0)))
   unfolding lineWritten

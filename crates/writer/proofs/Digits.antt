@@ -1,6 +1,6 @@
 -- The digits of a number, one by one from the last, and what a writer of numbers answers.
 use Prim.Native.Nat.{ℕ, zero, suc, _+_, _-_, _/_, _%_, _^_, _≤_, _<_}
-use mathlib.Core.Path.{_≡_, refl, sym, ap, _∙_}
+use mathlib.Core.Path.{_≡_, sym, ap, _∙_}
 use mathlib.Core.List.{[], _∷_, _++_, append-assoc}
 use native.Mathlib.Nat.{pow-le-pow-right, zero-lt-suc, one-le-pow}
 use native.Mathlib.Omega.{arith}
@@ -15,16 +15,12 @@ use Rattle.dirf.specs.Rules.{rules-opens}
 use Rattle.dirf.specs.Written.{writes}
 use Rattle.dirf.specs.Amounts.{writeNumber, amounts-opens}
 use Rattle.dirf.proofs.Bools.{if-cases}
-
-pub no-digits : (n : ℕ) → decimal n 0 ≡ []
-unfolding decimal
-no-digits zero = refl
-no-digits (suc n) = refl
+use Rattle.dirf.proofs.NumbersBack.{nothing-written}
 
 -- however many digits are allowed, where the number has no more
 enough : (m n v : ℕ) → v < 10 ^ m → v < 10 ^ n → decimal m v ≡ decimal n v
 unfolding decimal
-enough zero n v h k = let e : v ≡ 0 = omega arith in rw e (sym (no-digits n))
+enough zero n v h k = let e : v ≡ 0 = omega arith in rw e (sym (nothing-written n))
 enough (suc m) zero v h k = let e : v ≡ 0 = omega arith in rw e
 enough (suc m) (suc n) v h k =
     ap (λ (ds : Text). if eqb v 0 then [] else ds ++ ((48 + v % 10) ∷ [])) (enough m n (v / 10) (omega arith) (omega arith))

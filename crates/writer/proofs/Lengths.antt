@@ -1,23 +1,17 @@
 -- Lengths: added up against a total one at a time, and how many fields and bytes a line of them has.
 use Prim.Native.Nat.{ℕ, suc, _+_, _-_, _≤_, _<_}
 use mathlib.Core.Path.{_≡_, refl, sym, ap}
-use mathlib.Core.Bool.{Bool, true, false}
+use mathlib.Core.Bool.{false}
 use mathlib.Core.List.{List, [], _∷_}
 use native.Mathlib.Numerals.{add-one}
 use native.Mathlib.Omega.{arith}
 use lib.Dec.{eqb, ltb}
 use lib.ListN.{length, getD, drop, drop-of-length-le, length-append, length-drop}
 use lib.Seq.{drop-cons, length-take-le}
-use borrow.Author.Tests.{eq-eqb, ne-eqb, lt-ltb, le-ltb, eqb-true, eqb-false, ltb-true, ltb-false}
+use borrow.Author.Tests.{ne-eqb}
 use Rattle.dirf.specs.Bytes.{Text}
+use Rattle.dirf.proofs.Says.{same-answer, eqb-says, ltb-says}
 use Rattle.dirf.specs.LineWriter.{cut, sum, joined, lineOf}
-
-same-test : (a b c d : ℕ) → (a ≡ b → c ≡ d) → (c ≡ d → a ≡ b) → eqb a b ≡ eqb c d
-same-test a b c d f g = go (eqb c d) refl
-  where
-    go : (t : Bool) → eqb c d ≡ t → eqb a b ≡ t
-    go true e = eq-eqb a b (g (eqb-true c d e))
-    go false e = ne-eqb a b (λ p. eqb-false c d e (f p))
 
 module _ (ns : List ℕ) (i left : ℕ) where
   pub sum-past : left < getD ns i 0 → i < length ns → eqb (sum (drop i ns)) left ≡ false
@@ -29,19 +23,16 @@ module _ (ns : List ℕ) (i left : ℕ) where
   sum-on h k =
       let n = getD ns i 0 in
       let s = sum (drop (suc i) ns) in
-      rw (drop-cons ns i 0, add-one) (same-test (n + s) left s (left - n) (λ e. omega arith) (λ e. omega arith))
+      rw (drop-cons ns i 0, add-one) (same-answer _ _ (λ e. omega arith) (λ e. omega arith) (eqb-says (n + s) left) (eqb-says s (left - n)))
 
   pub sum-end : length ns ≤ i → eqb (sum (drop i ns)) left ≡ eqb left 0
   unfolding sum
-  sum-end h = rw (drop-of-length-le ns h) (same-test 0 left left 0 (λ e. omega arith) (λ e. omega arith))
+  sum-end h = rw (drop-of-length-le ns h) (same-answer _ _ sym sym (eqb-says 0 left) (eqb-says left 0))
 
 -- room taken away for the bytes, then for two more
 pub room-left : (room bytes count : ℕ) → bytes ≤ room → 2 ≤ room - bytes → ltb (room - bytes - 2) count ≡ ltb room (bytes + count + 2)
-room-left room bytes count h k = go (ltb (room - bytes - 2) count) refl
-  where
-    go : (t : Bool) → ltb (room - bytes - 2) count ≡ t → t ≡ ltb room (bytes + count + 2)
-    go true e = sym (lt-ltb room (bytes + count + 2) (omega (arith, ltb-true (room - bytes - 2) count e)))
-    go false e = sym (le-ltb room (bytes + count + 2) (omega (arith, ltb-false (room - bytes - 2) count e)))
+room-left room bytes count h k =
+    same-answer _ _ (λ e. omega arith) (λ e. omega arith) (ltb-says (room - bytes - 2) count) (ltb-says room (bytes + count + 2))
 
 pub cut-length : (ns : List ℕ) (text : Text) → length (cut ns text) ≡ length ns
 unfolding cut

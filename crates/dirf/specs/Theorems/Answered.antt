@@ -50,7 +50,8 @@ pub data FirstBroken {A : Type 0} (a : A) (n f : ℕ) : List (Rule A) → Type 0
 -- What an answer can be: accepted; unclosed, which is 1; or refused at the first line that breaks a rule, by the first rule in order.
 pub data Answer (e : Edition) (file : Text) (room : ℕ) : Verdict → Type 0 where
   accepts : Accepted e file room → Answer e file room (accepted (recs e [] (pieces file)))
-  unclosed : LinesRight e room (pieces file) → (Closed (recs e [] (pieces file)) → ⊥) → Answer e file room (refused (recs e [] (pieces file)) 1 0)
+  unclosed : LinesRight e room (pieces file) → (Closed (recs e [] (pieces file)) → ⊥)
+      → Answer e file room (refused (recs e [] (pieces file)) 1 0)
   refuses : (os : List Piece) (p : Piece) (qs : List Piece) (n f : ℕ) → pieces file ≡ os ++ (p ∷ qs) → LinesRight e room os
       → FirstBroken (here e room (recs e [] os) p) n f order → Answer e file room (refused (recs e [] os) n f)
 

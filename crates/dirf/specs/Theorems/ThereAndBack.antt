@@ -54,10 +54,12 @@ ReaderWritesBack e =
 
 -- 01, "Fields": amounts and month counts, there and back
 pub record Numbers : Type 0 where
-  pub amount-back : (v room : ℕ) → writeAmount v room .number ≡ 0 → readAmount (writeAmount v room .bytes) ≡ record { number = 0; value = v }
+  pub amount-back : (v room : ℕ) → writeAmount v room .number ≡ 0
+      → readAmount (writeAmount v room .bytes) ≡ record { number = 0; value = v }
   pub amount-there : (s : Text) (room : ℕ) → readAmount s .number ≡ 0 → length s ≤ room
       → writeAmount (readAmount s .value) room ≡ record { number = 0; field = 0; bytes = s }
-  pub months-back : (v room : ℕ) → writeMonths v room .number ≡ 0 → readMonths (writeMonths v room .bytes) ≡ record { number = 0; value = v }
+  pub months-back : (v room : ℕ) → writeMonths v room .number ≡ 0
+      → readMonths (writeMonths v room .bytes) ≡ record { number = 0; value = v }
   pub months-there : (s : Text) (room : ℕ) → readMonths s .number ≡ 0 → length s ≤ room
       → writeMonths (readMonths s .value) room ≡ record { number = 0; field = 0; bytes = s }
 

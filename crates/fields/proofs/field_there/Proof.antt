@@ -5,9 +5,6 @@ use Rattle.fields.specs.Places.{placeOf}
 use Rattle.fields.proofs.field_there.Statement.{statement}
 use Rattle.fields.proofs.field_there.Tie as tie
 
-returns : tie.Need-returns
-unfolding placeOf
-returns c = ap (λ p. p .there) (c .place-of .ensures)
-
 pub field-there-spec : {M : Type 1} → statement M
-field-there-spec = tie.close (tie.spec (λ c κs. search needs) returns)
+unfolding placeOf
+field-there-spec = tie.close (tie.spec (λ c κs. search needs) (λ c. ap (λ p. p .there) (c .place-of .ensures)))

@@ -21,7 +21,8 @@ arms = (44 ∷ 50 ∷ 54 ∷ 62 ∷ []) ∷ (6 ∷ 49 ∷ 52 ∷ 56 ∷ 60 ∷ [
 uncounted : (k : ℕ) → NoneOf arms k → 0 ≡ count k
 unfolding keyFields bytes-opens kinds-opens
 uncounted k n =
-    let no : (js : List ℕ) → every (λ j. some (isIn j) arms) js ≡ true → isIn k js ≡ false = λ js all. outside (λ j. some (isIn j) arms) js all k (none-in arms k n) in
+    let no : (js : List ℕ) → every (λ j. some (isIn j) arms) js ≡ true → isIn k js ≡ false =
+    λ js all. outside (λ j. some (isIn j) arms) js all k (none-in arms k n) in
     rw (no (PROC ∷ RRA ∷ []) refl, no (IDREC ∷ FCI ∷ SCP ∷ []) refl, no beneficiaries refl)
 
 pub key-count-spec : {M : Type 1} → statement M

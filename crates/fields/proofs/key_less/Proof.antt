@@ -11,26 +11,8 @@ use Rattle.fields.proofs.PlaceLaws.{key-of-cells}
 use Rattle.fields.proofs.key_less.Statement.{statement}
 use Rattle.fields.proofs.key_less.Tie as tie
 
-returns : tie.Need-returns
-unfolding fieldOf
-returns c =
-    let n = sym (c .before .before .before .before .key-count .ensures) ∙ c .before .before .before .match .keys1 in
-    simp (key-of-cells, key-parts, n, c .then-less .ensures, c .before .field2 .ensures .0, c .before .before .field .ensures .0)
-
-returns-2 : tie.Need-returns-2
-unfolding keyLess fieldOf
-returns-2 c =
-    let n = sym (c .before .before .before .key-count .ensures) ∙ c .before .before .match .keys2 in
-    simp (key-of-cells, key-parts, n, c .less .ensures, c .before .field3 .ensures .0, and-false, or-false)
-
-returns-3 : tie.Need-returns-3
-unfolding keyLess
-returns-3 c =
-    let k = c .before .before .before .before .before .args .k in
-    let n : length (keyFields k) ≡ 0 = omega (arith, at-most-two k) in
-    simp (key-of-cells, key-parts, n)
-
 pub key-less-spec : {M : Type 1} → statement M
+unfolding fieldOf keyLess
 key-less-spec =
     tie.close
     (tie.spec
@@ -40,6 +22,13 @@ key-less-spec =
     (λ c κs. search needs)
     (λ c κs. search needs)
     (λ c κs. search needs)
-    returns
-    returns-2
-    returns-3)
+    (λ c.
+    let n = sym (c .before .before .before .before .key-count .ensures) ∙ c .before .before .before .match .keys1 in
+    simp (key-of-cells, key-parts, n, c .then-less .ensures, c .before .field2 .ensures .0, c .before .before .field .ensures .0))
+    (λ c.
+    let n = sym (c .before .before .before .key-count .ensures) ∙ c .before .before .match .keys2 in
+    simp (key-of-cells, key-parts, n, c .less .ensures, c .before .field3 .ensures .0, and-false, or-false))
+    (λ c.
+    let k = c .before .before .before .before .before .args .k in
+    let n : length (keyFields k) ≡ 0 = omega (arith, at-most-two k) in
+    simp (key-of-cells, key-parts, n)))

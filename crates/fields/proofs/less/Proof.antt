@@ -14,28 +14,6 @@ Inv-loop a b i₀ i = (i ≤ length a) × ((i ≤ length b) × (less a b ≡ les
 abbrev μ-loop : tie.MeasureT-loop
 μ-loop a b i₀ i = length a - i
 
-returns : tie.Need-returns Inv-loop μ-loop
-returns c = sym (c .before .before .loop .inv .1 .1 ∙ less-short _ _ _ (c .before .loop-test .taken) (c .if1 .taken))
-
-returns-2 : tie.Need-returns-2 Inv-loop μ-loop
-returns-2 c =
-    let e = c .before .before in
-    let d = e .before .before .before in
-    sym (d .before .before .loop .inv .1 .1 ∙ less-off _ _ _ (e .if2 .taken) (d .before .loop-test .taken) (d .if1 .left))
-
-loop-again : tie.Need-loop-again Inv-loop μ-loop
-loop-again c =
-    let d = c .before .before .before in (
-      omega arith,
-      (
-        omega arith,
-        d .before .before .loop .inv .1 .1 ∙ less-on _ _ _ (c .if2 .left) (d .before .loop-test .taken) (d .if1 .left),
-      ),
-    )
-
-returns-3 : tie.Need-returns-3 Inv-loop μ-loop
-returns-3 c = sym (c .before .loop .inv .1 .1 ∙ less-end _ _ _ (c .loop-test .left))
-
 pub less-spec : {M : Type 1} → statement M
 less-spec =
     tie.close
@@ -43,13 +21,23 @@ less-spec =
     Inv-loop
     μ-loop
     (λ c. (omega arith, (omega arith, refl)))
-    returns
+    (λ c. sym (c .before .before .loop .inv .1 .1 ∙ less-short _ _ _ (c .before .loop-test .taken) (c .if1 .taken)))
     (λ c. omega arith)
     (λ c. omega arith)
     (λ c. omega arith)
     (λ c. omega arith)
-    returns-2
+    (λ c.
+    let e = c .before .before in
+    let d = e .before .before .before in
+    sym (d .before .before .loop .inv .1 .1 ∙ less-off _ _ _ (e .if2 .taken) (d .before .loop-test .taken) (d .if1 .left)))
     (λ c. omega arith)
     (λ c. omega arith)
-    loop-again
-    returns-3)
+    (λ c.
+    let d = c .before .before .before in (
+      omega arith,
+      (
+        omega arith,
+        d .before .before .loop .inv .1 .1 ∙ less-on _ _ _ (c .if2 .left) (d .before .loop-test .taken) (d .if1 .left),
+      ),
+    ))
+    (λ c. sym (c .before .loop .inv .1 .1 ∙ less-end _ _ _ (c .loop-test .left))))

@@ -10,43 +10,31 @@ use Rattle.fields.specs.Places.{partOf}
 use Rattle.fields.proofs.part.Statement.{statement}
 use Rattle.fields.proofs.part.Tie as tie
 
--- past the end there is nothing
-returns : tie.Need-returns
-unfolding partOf
-returns c = (
-  rw (drop-length, drop-of-length-le _ (c .before .if1 .taken), take-nil, take-nil (c .before .before .args .len)),
-  (refl, omega arith),
-)
-
--- all the bytes that are left
-returns-2 : tie.Need-returns-2
-unfolding partOf
-returns-2 c =
-    let a = c .before .before .before .args in
-    let rest = drop (a .start) (a .s .now) in
-    let all = take-all (length (a .s .now) - a .start) rest (simp length-drop (omega arith)) in
-    (all ∙ sym (take-all (a .len) rest (simp length-drop (omega arith))), (refl, omega arith))
-
--- as many as are asked for
-returns-3 : tie.Need-returns-3
-unfolding partOf
-returns-3 c = (rw add-sub-cancel-left, (refl, omega arith))
-
 pub part-spec : {M : Type 1} → statement M
+unfolding partOf
 part-spec =
     tie.close
     (tie.spec
     (λ c. search needs)
     (λ c. search needs)
     (λ c. search needs)
-    returns
+    -- past the end there is nothing
+    (λ c.
+    let a = c .before .before .args in
+    (rw (drop-length, drop-of-length-le _ (c .before .if1 .taken), take-nil, take-nil (a .len)), (refl, omega arith)))
     (λ c. search needs)
     (λ c. search needs)
     (λ c. search needs)
     (λ c. search needs)
-    returns-2
+    -- all the bytes that are left
+    (λ c.
+    let a = c .before .before .before .args in
+    let rest = drop (a .start) (a .s .now) in
+    let all = take-all (length (a .s .now) - a .start) rest (simp length-drop (omega arith)) in
+    (all ∙ sym (take-all (a .len) rest (simp length-drop (omega arith))), (refl, omega arith)))
     (λ c. search needs)
     (λ c. search needs)
     (λ c. search needs)
     (λ c. search needs)
-    returns-3)
+    -- as many as are asked for
+    (λ c. (rw add-sub-cancel-left, (refl, omega arith))))

@@ -14,49 +14,34 @@ Inv-loop line k start₀ left₀ start left = (start ≤ length line) × (placeO
 abbrev μ-loop : tie.MeasureT-loop
 μ-loop line k start₀ left₀ start left = left
 
-loop-holds : tie.Need-loop-holds Inv-loop μ-loop
-loop-holds c = (omega arith, place-is _ _)
-
-returns : tie.Need-returns Inv-loop μ-loop
-returns c =
-    let l = c .before .before .before .loop in
-    let b = c .before .bar-from in
-    sym (l .inv .1 ∙ sought-none _ (l .start) (b .result) (l .inv .0) (b .ensures) (l .left) (c .if1 .taken))
-
-returns-2 : tie.Need-returns-2 Inv-loop μ-loop
-returns-2 c =
-    let l = c .before .before .before .before .loop in
-    let b = c .before .before .bar-from in
-    let n : l .left ≡ 1 = omega arith in
-    sym (l .inv .1 ∙ rw n (sought-first _ (l .start) (b .result) (l .inv .0) (b .ensures) (c .before .if1 .left)))
-
-loop-again : tie.Need-loop-again Inv-loop μ-loop
-loop-again c =
-    let l = c .before .before .before .before .loop in
-    let b = c .before .before .bar-from in (
-      omega arith,
-      l .inv .1 ∙ sought-next _ (l .start) (b .result) (l .inv .0) (b .ensures) (l .left) (omega arith) (c .before .if1 .left),
-    )
-
-returns-3 : tie.Need-returns-3 Inv-loop μ-loop
-returns-3 c =
-    let l = c .before in
-    let n : l .loop .left ≡ 0 = omega arith in
-    sym (rw n at (l .loop .inv .1))
-
 pub place-of-spec : {M : Type 1} → statement M
 place-of-spec =
     tie.close
     (tie.spec
     Inv-loop
     μ-loop
-    loop-holds
+    (λ c. (omega arith, place-is _ _))
     (λ c κs. omega arith)
-    returns
+    (λ c.
+    let l = c .before .before .before .loop in
+    let b = c .before .bar-from in
+    sym (l .inv .1 ∙ sought-none _ (l .start) (b .result) (l .inv .0) (b .ensures) (l .left) (c .if1 .taken)))
     (λ c. omega arith)
-    returns-2
+    (λ c.
+    let l = c .before .before .before .before .loop in
+    let b = c .before .before .bar-from in
+    let n : l .left ≡ 1 = omega arith in
+    sym (l .inv .1 ∙ rw n (sought-first _ (l .start) (b .result) (l .inv .0) (b .ensures) (c .before .if1 .left))))
     (λ c. omega arith)
     (λ c. omega arith)
     (λ c. omega arith)
-    loop-again
-    returns-3)
+    (λ c.
+    let l = c .before .before .before .before .loop in
+    let b = c .before .before .bar-from in (
+      omega arith,
+      l .inv .1 ∙ sought-next _ (l .start) (b .result) (l .inv .0) (b .ensures) (l .left) (omega arith) (c .before .if1 .left),
+    ))
+    (λ c.
+    let l = c .before in
+    let n : l .loop .left ≡ 0 = omega arith in
+    sym (rw n at (l .loop .inv .1))))

@@ -1,13 +1,13 @@
 -- The places along the lengths are what the walk from length i on makes of those noted so far.
 use Prim.Native.Nat.{_≤_, _-_}
-use mathlib.Core.Path.{_≡_, refl, sym, _∙_}
+use mathlib.Core.Path.{_≡_, refl, sym, ap, _∙_}
 use native.Mathlib.Omega.{arith}
 use borrow.Author.Needs.{needs}
-use lib.ListN.{length, drop, length-set}
+use lib.ListN.{length, drop, length-set, drop-of-length-le}
 use Rattle.fields.specs.declared.Places.{Places}
 use Rattle.fields.specs.Places.{noPlaces, addPlace, alongFrom, placesAlong}
 use Rattle.fields.proofs.PlaceLaws.{Fifteen}
-use Rattle.fields.proofs.Along.{along-on, along-end}
+use Rattle.dirf.proofs.Lists.{drop-on}
 use Rattle.fields.proofs.places_along.Statement.{statement}
 use Rattle.fields.proofs.places_along.Tie as tie
 
@@ -20,36 +20,14 @@ Inv-loop lengths starts₀ lens₀ at₀ i₀ starts lens at i =
 abbrev μ-loop : tie.MeasureT-loop
 μ-loop lengths starts₀ lens₀ at₀ i₀ starts lens at i = length lengths - i
 
-loop-holds : tie.Need-loop-holds Inv-loop μ-loop
-unfolding placesAlong noPlaces
-loop-holds c = (omega arith, (record { starts = refl; lens = refl }, refl))
-
-loop-again : tie.Need-loop-again Inv-loop μ-loop
-unfolding addPlace
-loop-again c =
-    let s = c .before .before .before .before .before in
-    let l = s .before .before .before .before .loop in
-    let h = s .before .before .before .loop-test .taken in
-    let f = l .inv .1 .0 in (
-      omega arith,
-      (
-        record { starts = rw (s .note .ensures, length-set) (f .starts); lens = rw (c .before .before .note2 .ensures, length-set) (f .lens) },
-        l .inv .1 .1 ∙ along-on _ (l .i) (l .at) _ h ∙ cc (s .note .ensures, c .before .before .note2 .ensures, c .capped .ensures),
-      ),
-    )
-
-returns : tie.Need-returns Inv-loop μ-loop
-returns c =
-    let l = c .before .loop in
-    sym (l .inv .1 .1 ∙ along-end _ (l .i) (l .at) _ (c .loop-test .left))
-
 pub places-along-spec : {M : Type 1} → statement M
+unfolding placesAlong noPlaces addPlace alongFrom
 places-along-spec =
     tie.close
     (tie.spec
     Inv-loop
     μ-loop
-    loop-holds
+    (λ c. (omega arith, (record { starts = refl; lens = refl }, refl)))
     (λ c. omega arith)
     (λ c. omega arith)
     (λ c. sym (c .before .before .before .loop .inv .1 .0 .starts))
@@ -59,5 +37,23 @@ places-along-spec =
     (λ c κs. search needs)
     (λ c. omega arith)
     (λ c. omega arith)
-    loop-again
-    returns)
+    (λ c.
+    let s = c .before .before .before .before .before in
+    let l = s .before .before .before .before .loop in
+    let h = s .before .before .before .loop-test .taken in
+    let f = l .inv .1 .0 in
+    let p : Places = record { count = l .i; starts = l .starts; lens = l .lens } in (
+      omega arith,
+      (
+        record {
+          starts = rw (s .note .ensures, length-set) (f .starts);
+          lens = rw (c .before .before .note2 .ensures, length-set) (f .lens);
+        },
+        l .inv .1 .1 ∙ ap (λ ns. alongFrom ns (l .at) p) (drop-on _ (l .i) 0 h)
+            ∙ cc (s .note .ensures, c .before .before .note2 .ensures, c .capped .ensures),
+      ),
+    ))
+    (λ c.
+    let l = c .before .loop in
+    let p : Places = record { count = l .i; starts = l .starts; lens = l .lens } in
+    sym (l .inv .1 .1 ∙ ap (λ ns. alongFrom ns (l .at) p) (drop-of-length-le _ (c .loop-test .left)))))

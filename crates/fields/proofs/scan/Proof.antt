@@ -1,8 +1,8 @@
 -- The places of the line are what the walk from byte i on makes of those noted so far.
 use Prim.Native.Nat.{ℕ, _+_, _≤_, _-_}
-use mathlib.Core.Path.{_≡_, refl, sym, ap₂, _∙_}
+use mathlib.Core.Path.{_≡_, refl, sym, ap, ap₂, _∙_}
 use mathlib.Core.Logic.{⊎-elim}
-use mathlib.Core.List.{List}
+use mathlib.Core.List.{[]}
 use native.Mathlib.Omega.{arith}
 use borrow.Author.Needs.{needs}
 use lib.ListN.{length, drop, length-set}
@@ -12,7 +12,7 @@ use Rattle.fields.specs.declared.Places.{Places}
 use Rattle.fields.specs.declared.Scanned.{Scanned}
 use Rattle.fields.specs.Places.{noPlaces, addPlace, placesFrom, placesOf, scanOf}
 use Rattle.fields.proofs.PlaceLaws.{Fifteen}
-use Rattle.fields.proofs.Walk.{left-on, left-stop, left-end, walk-bar, walk-on, walk-stop, walk-end}
+use Rattle.fields.proofs.Walk.{clean-on, clean-stop, clean-end, walk-bar, walk-on}
 use Rattle.fields.proofs.scan.Statement.{statement}
 use Rattle.fields.proofs.scan.Tie as tie
 
@@ -26,16 +26,14 @@ Inv-loop s count₀ starts₀ lens₀ start₀ i₀ count starts lens start i =
 abbrev μ-loop : tie.MeasureT-loop
 μ-loop s count₀ starts₀ lens₀ start₀ i₀ count starts lens start i = length s - i
 
-loop-holds : tie.Need-loop-holds Inv-loop μ-loop
-unfolding placesOf noPlaces
-loop-holds c = (omega arith, (record { starts = refl; lens = refl }, (omega arith, refl)))
-
 -- the bytes up to byte i are the line's, and no field is left to note
-done : (s : Text) (i start : ℕ) (p : Places) → length (clean s) ≡ i + length (clean (drop i s)) → length (clean (drop i s)) ≡ 0
-    → placesOf (clean s) ≡ placesFrom (clean (drop i s)) start i p → placesFrom (clean (drop i s)) start i p ≡ p
+done : (s : Text) (i start : ℕ) (p : Places) → length (clean s) ≡ i + length (clean (drop i s))
+    → placesOf (clean s) ≡ placesFrom (clean (drop i s)) start i p → clean (drop i s) ≡ []
     → _≡_ {A = Scanned} (record { len = i; places = p }) (scanOf s)
-unfolding scanOf
-done s i start p n z q e = let long : i ≡ length (clean s) = omega arith in ap₂ (λ x y. record { len = x; places = y }) long (sym (q ∙ e))
+unfolding scanOf placesFrom
+done s i start p n q e =
+    let long : i ≡ length (clean s) = omega (arith, ap length e) in
+    ap₂ (λ x y. record { len = x; places = y }) long (sym (q ∙ ap (λ l. placesFrom l start i p) e))
 
 loop-again : tie.Need-loop-again Inv-loop μ-loop
 unfolding addPlace
@@ -44,7 +42,7 @@ loop-again c =
     let h = c .before .before .before .before .loop-test .taken in
     let n = sym (c .before .before .ends-line .ensures) ∙ c .before .if1 .left in
     let f = l .inv .1 .0 in
-    let less = left-on (c .before .before .before .before .before .before .before .args .s .now) (l .i) n h in
+    let less = ap length (clean-on (c .before .before .before .before .before .before .before .args .s .now) (l .i) n h) in
     ⊎-elim
     (λ w. (
       omega (arith, w .7, w .10),
@@ -68,29 +66,21 @@ loop-again c =
     ))
     (c .if2 .came)
 
-returns : tie.Need-returns Inv-loop μ-loop
-returns c =
-    let l = c .before .before .before .before .loop in
-    let h = c .before .before .before .loop-test .taken in
-    let n = sym (c .before .ends-line .ensures) ∙ c .if1 .taken in
-    done _ (l .i) (l .start) _ (l .inv .1 .1 .0) (left-stop _ (l .i) n h) (l .inv .1 .1 .1) (walk-stop _ (l .i) (l .start) _ n h)
-
-returns-2 : tie.Need-returns-2 Inv-loop μ-loop
-returns-2 c =
-    let l = c .before .loop in
-    let h = c .loop-test .left in
-    done _ (l .i) (l .start) _ (l .inv .1 .1 .0) (left-end _ (l .i) h) (l .inv .1 .1 .1) (walk-end _ (l .i) (l .start) _ h)
-
 pub scan-spec : {M : Type 1} → statement M
+unfolding placesOf noPlaces
 scan-spec =
     tie.close
     (tie.spec
     Inv-loop
     μ-loop
-    loop-holds
+    (λ c. (omega arith, (record { starts = refl; lens = refl }, (omega arith, refl))))
     (λ c. omega arith)
     (λ c κs. search needs)
-    returns
+    (λ c.
+    let l = c .before .before .before .before .loop in
+    let h = c .before .before .before .loop-test .taken in
+    let n = sym (c .before .ends-line .ensures) ∙ c .if1 .taken in
+    done _ (l .i) (l .start) _ (l .inv .1 .1 .0) (l .inv .1 .1 .1) (clean-stop _ (l .i) n h))
     (λ c. sym (c .before .before .before .before .before .before .loop .inv .1 .0 .starts))
     (λ c κs. search needs)
     (λ c. sym (c .before .before .before .before .before .before .before .before .before .loop .inv .1 .0 .lens))
@@ -101,4 +91,6 @@ scan-spec =
     (λ c. omega arith)
     (λ c. omega arith)
     loop-again
-    returns-2)
+    (λ c.
+    let l = c .before .loop in
+    done _ (l .i) (l .start) _ (l .inv .1 .1 .0) (l .inv .1 .1 .1) (clean-end _ (l .i) (c .loop-test .left))))

@@ -6,9 +6,6 @@ use Rattle.layout.specs.Tables.{nameTable, slotOf, concat}
 use Rattle.layout.proofs.name_table.Statement.{statement}
 use Rattle.layout.proofs.name_table.Tie as tie
 
-returns : tie.Need-returns
-unfolding nameTable slotOf concat bytes-opens edition-opens
-returns c = refl
-
 pub name-table-spec : {M : Type 1} → statement M
-name-table-spec = tie.close (tie.spec returns)
+unfolding nameTable slotOf concat bytes-opens edition-opens
+name-table-spec = tie.close (tie.spec (λ c. refl))

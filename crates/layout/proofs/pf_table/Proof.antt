@@ -6,9 +6,6 @@ use Rattle.layout.specs.Tables.{belowTable, yes}
 use Rattle.layout.proofs.pf_table.Statement.{statement}
 use Rattle.layout.proofs.pf_table.Tie as tie
 
-returns : tie.Need-returns
-unfolding belowTable yes bytes-opens edition-opens
-returns c = refl
-
 pub pf-table-spec : {M : Type 1} → statement M
-pf-table-spec = tie.close (tie.spec returns)
+unfolding belowTable yes bytes-opens edition-opens
+pf-table-spec = tie.close (tie.spec (λ c. refl))

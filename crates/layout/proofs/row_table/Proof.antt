@@ -6,9 +6,6 @@ use Rattle.layout.specs.Tables.{rowTable, recordOf, rowBytesOf, formatBy
 use Rattle.layout.proofs.row_table.Statement.{statement}
 use Rattle.layout.proofs.row_table.Tie as tie
 
-returns : tie.Need-returns
-unfolding rowTable recordOf rowBytesOf formatByte fillByte needByte holdsByte concat bytes-opens edition-opens
-returns c = refl
-
 pub row-table-spec : {M : Type 1} → statement M
-row-table-spec = tie.close (tie.spec returns)
+unfolding rowTable recordOf rowBytesOf formatByte fillByte needByte holdsByte concat bytes-opens edition-opens
+row-table-spec = tie.close (tie.spec (λ c. refl))

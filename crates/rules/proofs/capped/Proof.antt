@@ -1,13 +1,14 @@
 use Prim.Native.Nat.{_+_, _-_, _*_, _^_, _≤_, _<_}
-use mathlib.Core.Path.{_≡_, refl, sym, _∙_}
+use mathlib.Core.Path.{_≡_, refl, sym, ap, _∙_}
 use native.Mathlib.Nat.{le-trans, min-eq-left, min-eq-right}
 use native.Mathlib.Omega.{arith}
 use lib.ListN.{length, getD, drop}
 use Rattle.dirf.specs.Bytes.{isDigit}
 use Rattle.dirf.specs.Numbers.{valueAfter, valueOf}
 use Rattle.dirf.proofs.Says.{digit-says}
+use Rattle.dirf.proofs.Lists.{drop-on}
 use Rattle.rules.proofs.Every.{every-here}
-use Rattle.rules.proofs.Values.{value-on, value-end, value-least}
+use Rattle.rules.proofs.Values.{value-end, value-least}
 use Rattle.rules.proofs.capped.Statement.{statement}
 use Rattle.rules.proofs.capped.Tie as tie
 
@@ -30,9 +31,10 @@ digit c =
 more : (c : tie.After-wide Inv-loop μ-loop) → let l = c .before .before .before in
     let s = l .before .before .args .s .now in
     valueOf s ≡ valueAfter (l .loop .n * 10 + (c .wide .result - 48)) (drop (l .loop .i + 1) s)
+unfolding valueAfter
 more c =
     let l = c .before .before .before in
-    l .loop .inv .1 .1 ∙ value-on (l .before .before .args .s .now) (l .loop .i) (l .loop .n) (omega arith) ∙ rw (c .wide .ensures)
+    l .loop .inv .1 .1 ∙ ap (valueAfter (l .loop .n)) (drop-on _ (l .loop .i) 0 (omega arith)) ∙ rw (c .wide .ensures)
 
 pub capped-spec : {M : Type 1} → statement M
 unfolding valueOf

@@ -8,11 +8,11 @@ use Rattle.dirf.specs.Bytes.{Text}
 use Rattle.dirf.specs.Fields.{fieldOrder}
 use Rattle.dirf.specs.Rules.{orElse, askFields}
 use Rattle.layout.specs.Tables.{rowsIn}
-use Rattle.layout.proofs.Laws.{rows-length}
+use Rattle.layout.proofs.Laws.{rows-length, count-bound}
 use Rattle.fields.specs.Places.{mostFields, cellAt, cellsAt}
 use Rattle.fields.proofs.PlaceLaws.{cell-at, cells-length}
 use Rattle.rules.specs.Findings.{findingOf}
-use Rattle.rules.proofs.Findings.{fields-end, count-most, fieldsFrom, FieldFound, field-found}
+use Rattle.rules.proofs.Findings.{fields-end, fieldsFrom, FieldFound, field-found}
 use Rattle.rules.proofs.Laws.{in-parts}
 use Rattle.rules.proofs.contents_found.Statement.{statement}
 use Rattle.rules.proofs.contents_found.Tie as tie
@@ -37,7 +37,7 @@ cells l = cellsAt (start l .args .bytes .now) (start l .args .t2)
 
 -- no record has more than fifteen rows, as there are places for no more cells
 few : (l : tie.At-loop Inv-loop μ-loop) → l .before .field-count .result ≤ mostFields
-few l = rw (l .before .field-count .ensures) (count-most (rows l) (start l .args .k))
+few l = rw (l .before .field-count .ensures) (count-bound (rows l) (start l .args .k))
 
 -- field i has a row and a cell, and they are asked
 found-here : (c : tie.After-field-rule Inv-loop μ-loop) → let l = c .before .before .before .before .before .before .before in

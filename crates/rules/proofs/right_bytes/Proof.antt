@@ -1,13 +1,12 @@
-use Prim.Native.Nat.{ℕ, _≤_, _-_}
+use Prim.Native.Nat.{_≤_, _-_}
 use mathlib.Core.Path.{_≡_, refl, sym, _∙_}
-use mathlib.Core.Bool.{Bool}
 use native.Mathlib.Omega.{arith}
 use borrow.Author.Tests.{not-true, not-false}
-use lib.ListN.{length, drop}
-use Rattle.dirf.specs.Bytes.{every}
+use lib.ListN.{length, drop, drop-of-length-le}
+use Rattle.dirf.specs.Bytes.{Text, every}
 use Rattle.dirf.specs.Fields.{rightByte}
 use Rattle.layout.specs.Tables.{formatOf}
-use Rattle.rules.proofs.Every.{every-on, every-off, every-end}
+use Rattle.dirf.proofs.Lists.{drop-on}
 use Rattle.rules.proofs.right_bytes.Statement.{statement}
 use Rattle.rules.proofs.right_bytes.Tie as tie
 
@@ -17,10 +16,11 @@ Inv-loop format s i₀ i = (i ≤ length s) × (every (rightByte (formatOf forma
 abbrev μ-loop : tie.MeasureT-loop
 μ-loop format s i₀ i = length s - i
 
-abbrev right : tie.At-loop Inv-loop μ-loop → ℕ → Bool
-right l = rightByte (formatOf (l .before .before .args .format))
+abbrev text : tie.At-loop Inv-loop μ-loop → Text
+text l = l .before .before .args .s .now
 
 pub right-bytes-spec : {M : Type 1} → statement M
+unfolding every
 right-bytes-spec =
     tie.close
     (tie.spec
@@ -32,13 +32,13 @@ right-bytes-spec =
     (λ c.
     let l = c .before .before .before .before in
     let e = sym (c .before .right-byte .ensures) ∙ not-true _ (c .if1 .taken) in
-    sym (l .loop .inv .1 ∙ every-off (right l) (l .before .before .args .s .now) (l .loop .i) (omega arith) e))
+    sym (l .loop .inv .1 ∙ rw (drop-on (text l) (l .loop .i) 0 (omega arith), e)))
     (λ c. omega arith)
     (λ c. omega arith)
     (λ c.
     let l = c .before .before .before .before in
     let e = sym (c .before .right-byte .ensures) ∙ not-false _ (c .if1 .left) in
-    (omega arith, l .loop .inv .1 ∙ every-on (right l) (l .before .before .args .s .now) (l .loop .i) (omega arith) e))
+    (omega arith, l .loop .inv .1 ∙ rw (drop-on (text l) (l .loop .i) 0 (omega arith), e)))
     (λ c.
     let l = c .before in
-    sym (l .loop .inv .1 ∙ every-end (right l) (l .before .before .args .s .now) (l .loop .i) (omega arith))))
+    sym (l .loop .inv .1 ∙ rw (drop-of-length-le (text l) (c .loop-test .left)))))

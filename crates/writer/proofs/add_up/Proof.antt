@@ -15,17 +15,6 @@ Inv-loop lengths total left₀ i₀ left i = (i ≤ length lengths) × (eqb (sum
 abbrev μ-loop : tie.MeasureT-loop
 μ-loop lengths total left₀ i₀ left i = length lengths - i
 
-returns : tie.Need-returns Inv-loop μ-loop
-returns c = let l = c .before .before .before .loop in sym (l .inv .1 ∙ sum-past _ (l .i) (l .left) (omega arith) (omega arith))
-
-loop-again : tie.Need-loop-again Inv-loop μ-loop
-loop-again c =
-    let l = c .before .before .before .before .loop in
-    (omega arith, l .inv .1 ∙ sum-on _ (l .i) (l .left) (omega arith) (omega arith))
-
-returns-2 : tie.Need-returns-2 Inv-loop μ-loop
-returns-2 c = let l = c .before .loop in sym (l .inv .1 ∙ sum-end _ (l .i) (l .left) (omega arith))
-
 pub add-up-spec : {M : Type 1} → statement M
 add-up-spec =
     tie.close
@@ -35,11 +24,13 @@ add-up-spec =
     (λ c. (omega arith, refl))
     (λ c. omega arith)
     (λ c. omega arith)
-    returns
+    (λ c. let l = c .before .before .before .loop in sym (l .inv .1 ∙ sum-past _ (l .i) (l .left) (omega arith) (omega arith)))
     (λ c. omega arith)
     (λ c. omega arith)
     (λ c. omega arith)
     (λ c. omega arith)
     (λ c. omega arith)
-    loop-again
-    returns-2)
+    (λ c.
+    let l = c .before .before .before .before .loop in
+    (omega arith, l .inv .1 ∙ sum-on _ (l .i) (l .left) (omega arith) (omega arith)))
+    (λ c. let l = c .before .loop in sym (l .inv .1 ∙ sum-end _ (l .i) (l .left) (omega arith))))

@@ -5,7 +5,8 @@ use mathlib.Core.List.{[], _++_}
 use native.Mathlib.Omega.{arith}
 use lib.ListN.{length, drop, length-set}
 use Rattle.dirf.specs.Numbers.{decimal}
-use Rattle.writer.proofs.Digits.{no-digits, count-on, digit-put}
+use Rattle.dirf.proofs.NumbersBack.{nothing-written}
+use Rattle.writer.proofs.Digits.{count-on, digit-put}
 use Rattle.writer.proofs.put_digits.Statement.{statement}
 use Rattle.writer.proofs.put_digits.Tie as tie
 
@@ -17,41 +18,26 @@ Inv-loop v n out₀ i₀ x₀ out i x =
 abbrev μ-loop : tie.MeasureT-loop
 μ-loop v n out₀ i₀ x₀ out i x = x
 
-loop-holds : tie.Need-loop-holds Inv-loop μ-loop
-loop-holds c = (omega arith, refl)
-
-sub-i : tie.Need-sub-i Inv-loop μ-loop
-sub-i c = omega (arith, count-on (c .before .loop .x) (omega arith) (omega arith))
-
-slice-write-out : tie.Need-slice-write-out Inv-loop μ-loop
-slice-write-out c = omega (arith, count-on (c .before .loop .x) (omega arith) (omega arith))
-
-loop-again : tie.Need-loop-again Inv-loop μ-loop
-loop-again c =
-    let l = c .before .loop in
-    let k = count-on (l .x) (omega arith) (omega arith) in
-    (simp length-set (omega arith), digit-put (l .x) (l .i) (l .out) (omega arith) (omega arith) (omega arith) (omega arith) ∙ l .inv .1)
-
-returns : tie.Need-returns Inv-loop μ-loop
-returns c =
-    let l = c .before .loop in
-    let x : l .x ≡ 0 = omega arith in
-    let z : decimal 20 (l .x) ≡ [] = rw x (no-digits 20) in
-    let i : l .i ≡ 0 = omega (arith, ap length z) in
-    rw (← l .inv .1, z, i)
-
 pub put-digits-spec : {M : Type 1} → statement M
 put-digits-spec =
     tie.close
     (tie.spec
     Inv-loop
     μ-loop
-    loop-holds
-    sub-i
+    (λ c. (omega arith, refl))
+    (λ c. omega (arith, count-on (c .before .loop .x) (omega arith) (omega arith)))
     (λ c. omega arith)
     (λ c. omega arith)
-    slice-write-out
+    (λ c. omega (arith, count-on (c .before .loop .x) (omega arith) (omega arith)))
     (λ c. omega arith)
-    loop-again
+    (λ c.
+    let l = c .before .loop in
+    let k = count-on (l .x) (omega arith) (omega arith) in
+    (simp length-set (omega arith), digit-put (l .x) (l .i) (l .out) (omega arith) (omega arith) (omega arith) (omega arith) ∙ l .inv .1))
     (λ c. omega arith)
-    returns)
+    (λ c.
+    let l = c .before .loop in
+    let x : l .x ≡ 0 = omega arith in
+    let z : decimal 20 (l .x) ≡ [] = rw x (nothing-written 20) in
+    let i : l .i ≡ 0 = omega (arith, ap length z) in
+    rw (← l .inv .1, z, i)))

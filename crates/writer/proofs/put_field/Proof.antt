@@ -19,37 +19,28 @@ Inv-loop field out₀ at i₀ out i =
 abbrev μ-loop : tie.MeasureT-loop
 μ-loop field out₀ at i₀ out i = length field - i
 
-loop-holds : tie.Need-loop-holds Inv-loop μ-loop
-loop-holds c = (omega arith, rw add-zero)
-
-loop-again : tie.Need-loop-again Inv-loop μ-loop
-loop-again c =
-    let l = c .before .before .loop in
-    let at = c .before .before .before .args .at in
-    (simp length-set (omega arith), l .inv .1 ∙ field-on _ (l .out) at (l .i) (c .before .loop-test .taken))
-
-returns : tie.Need-returns Inv-loop μ-loop
-returns c =
-    let l = c .before .loop in
-    let at = c .before .before .args .at in
-    (omega arith, sym (l .inv .1 ∙ field-end _ (l .out) at (l .i) (c .loop-test .left)))
-
 pub put-field-spec : {M : Type 1} → statement M
 put-field-spec =
     tie.close
     (tie.spec
     Inv-loop
     μ-loop
-    loop-holds
+    (λ c. (omega arith, rw add-zero))
     (λ c. omega arith)
     (λ c. omega arith)
     (λ c. omega arith)
     (λ c. omega arith)
     (λ c. omega arith)
-    loop-again
+    (λ c.
+    let l = c .before .before .loop in
+    let at = c .before .before .before .args .at in
+    (simp length-set (omega arith), l .inv .1 ∙ field-on _ (l .out) at (l .i) (c .before .loop-test .taken)))
     (λ c. omega arith)
     (λ c. omega arith)
     (λ c. omega arith)
     (λ c. omega arith)
     (λ c. simp length-set (omega arith))
-    returns)
+    (λ c.
+    let l = c .before .loop in
+    let at = c .before .before .args .at in
+    (omega arith, sym (l .inv .1 ∙ field-end _ (l .out) at (l .i) (c .loop-test .left)))))

@@ -23,10 +23,6 @@ Inv-loop contents lengths out₀ from₀ at₀ i₀ out from at i =
 abbrev μ-loop : tie.MeasureT-loop
 μ-loop contents lengths out₀ from₀ at₀ i₀ out from at i = length lengths - i
 
-loop-holds : tie.Need-loop-holds Inv-loop μ-loop
-unfolding rest
-loop-holds c = (omega arith, (refl, (omega arith, refl)))
-
 put-field-requires : tie.Need-put-field-requires Inv-loop μ-loop
 put-field-requires c κs =
     let l = c .before .before .before .before .loop in
@@ -35,13 +31,6 @@ put-field-requires c κs =
     let n = rest-length (a .lengths .now) (a .contents .now) (l .i) (l .from) h in
     let two = rest-two (a .lengths .now) (a .contents .now) (l .i + 1) (l .from + getD (a .lengths .now) (l .i) 0) in
     omega (arith, n, two, ap length (c .before .part .ensures .0))
-
-add-from : tie.Need-add-from Inv-loop μ-loop
-add-from c =
-    let l = c .before .before .before .before .before .before .before .loop in
-    let a = c .before .before .before .before .before .before .before .before .before .before .before .args in
-    let h = c .before .before .before .before .before .before .loop-test .taken in
-    omega (arith, rest-sum (a .lengths .now) (a .contents .now) (l .i) (l .from) h)
 
 loop-again : tie.Need-loop-again Inv-loop μ-loop
 loop-again c =
@@ -56,43 +45,39 @@ loop-again c =
     let o = ap length (f .1) ∙ length-sets (l .out) (l .at) (now (part .result) ++ (bar ∷ [])) in
     (omega (arith, s), (o ∙ l .inv .1 .0, (omega (arith, n, f .0, ap length (part .ensures .0)), l .inv .1 .1 .1 ∙ put)))
 
-slice-write-out : tie.Need-slice-write-out Inv-loop μ-loop
-slice-write-out c =
-    let l = c .before .loop in
-    let a = c .before .before .before .before .before .args in
-    omega (arith, rest-two (a .lengths .now) (a .contents .now) (l .i) (l .from))
-
-slice-write-out-2 : tie.Need-slice-write-out-2 Inv-loop μ-loop
-slice-write-out-2 c =
-    let l = c .before .loop in
-    let a = c .before .before .before .before .before .args in
-    simp length-set (omega (arith, rest-two (a .lengths .now) (a .contents .now) (l .i) (l .from)))
-
-returns : tie.Need-returns Inv-loop μ-loop
-returns c =
-    let l = c .before .loop in
-    let a = c .before .before .before .before .before .args in
-    let e = rest-end (a .lengths .now) (a .contents .now) (l .i) (l .from) (c .loop-test .left) in
-    (omega (arith, ap length e), sym (l .inv .1 .1 .1 ∙ rw (e, add-one)))
-
 pub put-line-spec : {M : Type 1} → statement M
+unfolding rest
 put-line-spec =
     tie.close
     (tie.spec
     Inv-loop
     μ-loop
-    loop-holds
+    (λ c. (omega arith, (refl, (omega arith, refl))))
     (λ c. omega arith)
     (λ c. omega arith)
     (λ c κs. tt)
     put-field-requires
-    add-from
+    (λ c.
+    let l = c .before .before .before .before .before .before .before .loop in
+    let a = c .before .before .before .before .before .before .before .before .before .before .before .args in
+    let h = c .before .before .before .before .before .before .loop-test .taken in
+    omega (arith, rest-sum (a .lengths .now) (a .contents .now) (l .i) (l .from) h))
     (λ c. omega arith)
     (λ c. omega arith)
     loop-again
-    slice-write-out
+    (λ c.
+    let l = c .before .loop in
+    let a = c .before .before .before .before .before .args in
+    omega (arith, rest-two (a .lengths .now) (a .contents .now) (l .i) (l .from)))
     (λ c. omega arith)
-    slice-write-out-2
+    (λ c.
+    let l = c .before .loop in
+    let a = c .before .before .before .before .before .args in
+    simp length-set (omega (arith, rest-two (a .lengths .now) (a .contents .now) (l .i) (l .from))))
     (λ c. omega arith)
     (λ c. simp length-set (omega arith))
-    returns)
+    (λ c.
+    let l = c .before .loop in
+    let a = c .before .before .before .before .before .args in
+    let e = rest-end (a .lengths .now) (a .contents .now) (l .i) (l .from) (c .loop-test .left) in
+    (omega (arith, ap length e), sym (l .inv .1 .1 .1 ∙ rw (e, add-one)))))

@@ -7,14 +7,10 @@ use Rattle.writer.proofs.Lengths.{room-left}
 use Rattle.writer.proofs.too_small.Statement.{statement}
 use Rattle.writer.proofs.too_small.Tie as tie
 
-returns : tie.Need-returns
-returns c = let a = c .before .args in sym (lt-ltb (a .room) (a .bytes + a .count + 2) (omega arith))
-
-returns-2 : tie.Need-returns-2
-returns-2 c = let a = c .before .before .args in sym (lt-ltb (a .room) (a .bytes + a .count + 2) (omega arith))
-
-returns-3 : tie.Need-returns-3
-returns-3 c = let a = c .before .before .args in room-left (a .room) (a .bytes) (a .count) (c .before .if1 .left) (c .if2 .left)
-
 pub too-small-spec : {M : Type 1} → statement M
-too-small-spec = tie.close (tie.spec returns returns-2 returns-3)
+too-small-spec =
+    tie.close
+    (tie.spec
+    (λ c. let a = c .before .args in sym (lt-ltb (a .room) (a .bytes + a .count + 2) (omega arith)))
+    (λ c. let a = c .before .before .args in sym (lt-ltb (a .room) (a .bytes + a .count + 2) (omega arith)))
+    (λ c. let a = c .before .before .args in room-left (a .room) (a .bytes) (a .count) (c .before .if1 .left) (c .if2 .left)))

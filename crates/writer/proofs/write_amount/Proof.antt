@@ -4,9 +4,6 @@ use Rattle.dirf.specs.Amounts.{writeAmount}
 use Rattle.writer.proofs.write_amount.Statement.{statement}
 use Rattle.writer.proofs.write_amount.Tie as tie
 
-returns : tie.Need-returns
-unfolding writeAmount
-returns c = search needs
-
 pub write-amount-spec : {M : Type 1} → statement M
-write-amount-spec = tie.close (tie.spec (λ c κs. search needs) (λ c. search needs) returns)
+unfolding writeAmount
+write-amount-spec = tie.close (tie.spec (λ c κs. search needs) (λ c. search needs) (λ c. search needs))

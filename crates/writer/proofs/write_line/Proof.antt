@@ -30,37 +30,27 @@ asked c =
     rw (t .before .name-table .ensures, t .row-table .ensures) (says edition2025 laidOut2025) in
     c .refusal .ensures ∙ ap findingOf (by-tables say (s .args .kind) (s .args .contents .now) (s .args .lengths .now) _ small)
 
-put-line-requires : tie.Need-put-line-requires
-put-line-requires c κs =
-    let q = asked (c .before .before .before) in
-    let none = c .before .if1 .left in
-    (added-up edition2025 _ _ _ _ q none, has-room edition2025 _ _ _ _ q none)
-
-returns-2 : tie.Need-returns-2
-unfolding writes outputAfter lineWritten
-returns-2 c =
-    let s = c .before .before .before .before in
-    let a = s .before .before .before .before .before .before .before .before .before .before .args in
-    let q = asked (s .before .before) in
-    let p = c .before .before .put-line .ensures in
-    let w = line-written edition2025 _ _ _ _ q (s .if1 .left) in
-    let l = line-stored edition2025 _ _ _ _ q (s .if1 .left) (a .out .now) refl in
-    (rw (w, p .0), rw w (p .1 ∙ l))
-
-returns : tie.Need-returns
-unfolding writes outputAfter lineWritten
-returns c =
-    let w = line-refused edition2025 _ _ _ _ (asked (c .before .before)) (c .if1 .taken) in
-    (rw w, rw w)
-
 pub write-line-spec : {M : Type 1} → statement M
+unfolding writes outputAfter lineWritten
 write-line-spec =
     tie.close
     (tie.spec
     (λ c κs. search needs)
     (λ c κs. search needs)
     (λ c κs. search needs)
-    returns
-    put-line-requires
+    (λ c.
+    let w = line-refused edition2025 _ _ _ _ (asked (c .before .before)) (c .if1 .taken) in
+    (rw w, rw w))
+    (λ c κs.
+    let q = asked (c .before .before .before) in
+    let none = c .before .if1 .left in
+    (added-up edition2025 _ _ _ _ q none, has-room edition2025 _ _ _ _ q none))
     (λ c. search needs)
-    returns-2)
+    (λ c.
+    let s = c .before .before .before .before in
+    let a = s .before .before .before .before .before .before .before .before .before .before .args in
+    let q = asked (s .before .before) in
+    let p = c .before .before .put-line .ensures in
+    let w = line-written edition2025 _ _ _ _ q (s .if1 .left) in
+    let l = line-stored edition2025 _ _ _ _ q (s .if1 .left) (a .out .now) refl in
+    (rw (w, p .0), rw w (p .1 ∙ l))))

@@ -4,9 +4,6 @@ use Rattle.dirf.specs.Amounts.{writeMonths}
 use Rattle.writer.proofs.write_months.Statement.{statement}
 use Rattle.writer.proofs.write_months.Tie as tie
 
-returns : tie.Need-returns
-unfolding writeMonths
-returns c = search needs
-
 pub write-months-spec : {M : Type 1} → statement M
-write-months-spec = tie.close (tie.spec (λ c κs. search needs) (λ c. search needs) returns)
+unfolding writeMonths
+write-months-spec = tie.close (tie.spec (λ c κs. search needs) (λ c. search needs) (λ c. search needs))
