@@ -29,6 +29,7 @@ use Rattle.dirf.proofs.OpenRecords.{open-records}
 use Rattle.dirf.proofs.ValuePlace.{open-depth}
 use Rattle.layout.specs.Tables.{namesIn}
 use Rattle.layout.specs.LaidOut.{SayBelow}
+use Rattle.rules.proofs.Laws.{or-keeps}
 use Rattle.checker.specs.Lines.{afterLine as behindLine, thirdKind}
 use Rattle.checker.specs.State.{lineBytes, startState, startPast, lastIn, above, Near, pastAfter, stateAfter}
 use Rattle.checker.specs.Turn.{refusedAt, haltAt, halt, Fits, lookedFound, entryOf, turnOf}
@@ -40,7 +41,7 @@ use Rattle.checker.specs.declared.turn.Stepped.{Stepped}
 use Rattle.checker.specs.declared.turn.Record.{Record}
 use Rattle.checker.proofs.state.Sums.{Sums, sums-start, parent-same}
 use Rattle.checker.proofs.state.Next.{sums-next, held-few}
-use Rattle.checker.proofs.turn.Outcome.{early, or-keeps, lookRule, refusal, ln, kd, readAs, Took, Outcome, Turned, answer-is, there, looked-is}
+use Rattle.checker.proofs.turn.Outcome.{early, lookRule, refusal, ln, kd, readAs, Took, Outcome, Turned, answer-is, there, looked-is}
 use Rattle.checker.proofs.turn.Outcome.{small, turned}
 use Rattle.checker.proofs.Cases.{test}
 

@@ -1,6 +1,6 @@
 -- What the code's tests read of a line, byte by byte.
 use Prim.Native.Nat.{ℕ, suc, _-_, _≤_, _<_}
-use mathlib.Core.Path.{_≡_, refl, ap, ap₂, _∙_, subst}
+use mathlib.Core.Path.{_≡_, refl, ap, _∙_}
 use mathlib.Core.Bool.{Bool, true, false}
 use mathlib.Core.List.{[], _∷_}
 use native.Mathlib.Omega.{arith}
@@ -10,9 +10,7 @@ use borrow.Author.Tests.{lt-leb, lt-ltb, le-ltb}
 use Rattle.dirf.specs.Bytes.{if_then_else_, Text, endsWith}
 use Rattle.dirf.specs.Limits.{lineLimit}
 use Rattle.dirf.specs.Lines.{isLineEnd, clean, unclean}
-use Rattle.fields.specs.Places.{scanOf}
-use Rattle.fields.specs.declared.Scanned.{Scanned}
-use Rattle.checker.specs.Lines.{endOf, numberAt, afterLine}
+use Rattle.checker.specs.Lines.{endOf, numberAt}
 
 -- what stands behind the bytes of a line
 pub drop-clean : (s : Text) → drop (length (clean s)) s ≡ unclean s
@@ -48,11 +46,6 @@ unfolding endOf
 ended [] = refl
 ended (b ∷ []) = refl
 ended (b ∷ c ∷ u) = rw (lt-leb (suc (suc (length u))) 0 (omega arith), lt-leb (suc (suc (length u))) 1 (omega arith))
-
--- what stands behind a line, by what was scanned of it
-pub behind-line : (s : Text) {l : Scanned} → l ≡ scanOf s → {t u : Text} → t ≡ drop (l .len) s → u ≡ drop 2 t → u ≡ afterLine s
-unfolding afterLine scanOf
-behind-line s e f g = g ∙ ap (drop 2) (f ∙ ap (λ (m : Scanned). drop (m .len) s) e)
 
 -- 4 past the limit, else what stands behind the bytes gives the number
 module _ (s : Text) {n : ℕ} (e : n ≡ length (clean s)) where

@@ -26,6 +26,7 @@ use Rattle.layout.specs.Tables.{kinds, namesIn, nameIn, rowsIn, countIn}
 use Rattle.layout.specs.LaidOut.{Say}
 use Rattle.layout.proofs.Laws.{kind-small, count-is, few-rows}
 use Rattle.rules.specs.Findings.{contentsFound}
+use Rattle.rules.proofs.Laws.{or-keeps}
 use Rattle.checker.specs.Lines.{numberAt}
 use Rattle.checker.specs.State.{heldAt, lastIn, placeFound, lookFound}
 use Rattle.checker.specs.Turn.{refusedAt, halt, foundStep, went, lookedFound, filledFound}
@@ -43,11 +44,6 @@ use Rattle.checker.proofs.Cases.{test}
 -- the order of numbers but for its last parts, look back and room
 abbrev pub early : List (Rule Here)
 early = limits ++ lineEnds ++ kind ++ place ++ over (λ h. h .contents) (fieldCount ++ contents)
-
-pub or-keeps : (x : Found) → orElse x keeps ≡ x
-unfolding orElse
-or-keeps keeps = refl
-or-keeps (breaks n f) = refl
 
 module _ (e : Edition) (before : List Rec) (line : Text) where
   abbrev k : ℕ

@@ -4,18 +4,16 @@ use mathlib.Core.Path.{_≡_, ap}
 use native.Mathlib.Omega.{arith}
 use lib.ListN.{length}
 use borrow.Author.Needs.{needs}
-use Rattle.dirf.specs.Bytes.{Text}
 use Rattle.dirf.specs.Edition.{Edition}
 use Rattle.dirf.specs.Limits.{linesLimit}
 use Rattle.dirf.specs.Check.{entryNumbers}
 use Rattle.dirf.specs.Rules.{keeps}
+use Rattle.rules.proofs.Laws.{finding-says}
 use Rattle.checker.specs.State.{lastIn, stateAfter, pastAfter, Near}
 use Rattle.checker.specs.Turn.{Fits, lookedFound, entryOf}
 use Rattle.checker.specs.Answers.{SayAll}
-use Rattle.checker.specs.declared.state.Last.{Last}
 use Rattle.checker.specs.declared.state.State.{State}
-use Rattle.checker.specs.declared.turn.Record.{Record}
-use Rattle.checker.proofs.turn.Stops.{Numbered, look-numbered, broke, keeps-all}
+use Rattle.checker.proofs.turn.Stops.{looked-numbered, keeps-all}
 use Rattle.checker.proofs.Reading.{On}
 use Rattle.checker.proofs.Held.{Held, held-start, held-near, same-length, answered, turn-step, held-next}
 use Rattle.checker.proofs.walk.Statement.{statement}
@@ -57,10 +55,6 @@ entered c = asked (c .before .before .before)
 abbrev written : tie.After-slice-known2 Inv-loop μ-loop → tie.Else1 Inv-loop μ-loop
 written c = entered (c .before .before .before .before .before)
 
-looked-numbered : (file : Text) (st : State) (r : Record) (last : Last) → Numbered (lookedFound file st r last)
-unfolding lookedFound
-looked-numbered file st r last = look-numbered file last _ _ _ _
-
 -- it keeps 21 and 20
 kept : (c : tie.Else2 Inv-loop μ-loop) → let o = looked (c .before .before) in let l = o .before .before .loop in
     let r = o .before .turn .result .read in
@@ -83,14 +77,15 @@ returns-2 : tie.Need-returns-2 Inv-loop μ-loop
 unfolding lastIn
 returns-2 c =
     let o = looked (c .before .before .before) in
-    let q = broke _ (c .before .before .before .looked .ensures) (c .before .if2 .taken) in
+    let q = finding-says _ (c .before .before .before .looked .ensures) (c .before .if2 .taken) in
     rw (c .refused .ensures) (both (λ e all. answered (o .before .before .loop .inv e all) _ (on o e all .refuses _ _ q)))
 
 returns-3 : tie.Need-returns-3 Inv-loop μ-loop
 returns-3 c =
     let o = asked (c .before .before) in
     rw (c .refused2 .ensures)
-    (both (λ e all. answered (o .before .before .loop .inv e all) _ (on o e all .full (kept (c .before .before .before)) (c .before .if3 .taken))))
+    (both (λ e all.
+    answered (o .before .before .loop .inv e all) _ (on o e all .full (kept (c .before .before .before)) (c .before .if3 .taken))))
 
 loop-again : tie.Need-loop-again Inv-loop μ-loop
 unfolding entryOf pastAfter
