@@ -13,18 +13,19 @@ use Rattle.layout.proofs.Edition2025.{laidOut2025, other-table}
 use Rattle.checker.specs.Lines.{thirdKind}
 use Rattle.checker.specs.Answers.{SayAll}
 
-module _ (file : Text) {names rows : List ℕ} {below : List (List ℕ)}
-    (n : names ≡ nameTable edition2025) (r : rows ≡ rowTable edition2025) where
-  with-table : below ≡ belowTable edition2025 (thirdKind names file) → SayAll edition2025 names rows below file
-  with-table b =
+module _ (file : Text) {names rows : List ℕ} {below : List (List ℕ)} (r : rows ≡ rowTable edition2025) where
+  with-table : names ≡ nameTable edition2025 → below ≡ belowTable edition2025 (thirdKind names file) → SayAll edition2025 names rows below file
+  with-table n b =
       record {
         sound = sound2025;
         say = rw (n, r) (says edition2025 laidOut2025);
         say-below = subst (SayBelow edition2025 (thirdKind names file)) (sym b) (says-below edition2025 laidOut2025 (thirdKind names file));
       }
 
-  pub say-pf : thirdKind names file ≡ DECPF → below ≡ belowTable edition2025 DECPF → SayAll edition2025 names rows below file
-  say-pf q b = with-table (b ∙ ap (belowTable edition2025) (sym q))
+  pub say-pf : below ≡ belowTable edition2025 DECPF → (names ≡ nameTable edition2025) × (thirdKind names file ≡ DECPF)
+      → SayAll edition2025 names rows below file
+  say-pf b p = with-table (p .0) (b ∙ ap (belowTable edition2025) (sym (p .1)))
 
-  pub say-pj : (thirdKind names file ≡ DECPF → ⊥) → below ≡ belowTable edition2025 DECPJ → SayAll edition2025 names rows below file
-  say-pj q b = with-table (b ∙ sym (other-table (thirdKind names file) q))
+  pub say-pj : below ≡ belowTable edition2025 DECPJ → (names ≡ nameTable edition2025) × (thirdKind names file ≡ DECPF → ⊥)
+      → SayAll edition2025 names rows below file
+  say-pj b p = with-table (p .0) (b ∙ sym (other-table (thirdKind names file) (p .1)))

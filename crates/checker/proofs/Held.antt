@@ -2,8 +2,7 @@
 use Prim.Native.Nat.{ℕ, _/_}
 use mathlib.Core.Path.{_≡_, sym, ap, ap₂, _∙_, subst}
 use mathlib.Core.List.{List, [], _∷_}
-use native.Mathlib.Omega.{arith}
-use lib.ListN.{length, take, length-take}
+use lib.ListN.{length, take}
 use lib.Seq.{take-nil}
 use Rattle.dirf.specs.Bytes.{Text}
 use Rattle.dirf.specs.Limits.{numbersAnEntry}
@@ -21,7 +20,7 @@ use Rattle.checker.specs.declared.state.State.{State}
 use Rattle.checker.specs.declared.turn.Record.{Record}
 use Rattle.checker.specs.declared.turn.Stepped.{Stepped}
 use Rattle.checker.proofs.Reading.{Reading, reading-start, near, Stops, Goes, Step, step}
-use Rattle.checker.proofs.Table.{with-length, put-next}
+use Rattle.checker.proofs.Table.{held-length, put-next}
 
 -- a table with those entries of the lines before in front that it holds whole
 abbrev entriesIn : List ℕ → List Rec → List ℕ
@@ -44,9 +43,7 @@ module _ {e : Edition} {below : List (List ℕ)} {file : Text} {room : ℕ} {fir
   held-near = near (h .reading)
 
   pub same-length : length t ≡ length first
-  same-length =
-      let m : ℕ = length first / numbersAnEntry in
-      ap length (h .table) ∙ with-length first (take m (tableOf (h .before))) (omega (arith, length-take m (tableOf (h .before))))
+  same-length = ap length (h .table) ∙ held-length first (tableOf (h .before))
 
   -- where the turn stops, or what it has read is refused, the answer is the verdict and the table is left as it is
   pub answered : (a : Answer) → Stops (verdict e file room) (h .before) a

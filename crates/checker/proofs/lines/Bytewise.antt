@@ -1,27 +1,22 @@
 -- What the code's tests read of a line, byte by byte.
 use Prim.Native.Nat.{ℕ, suc, _-_, _≤_, _<_}
 use mathlib.Core.Path.{_≡_, refl, ap, _∙_}
-use mathlib.Core.Bool.{Bool, true, false}
+use mathlib.Core.Bool.{false}
 use mathlib.Core.List.{[], _∷_}
 use native.Mathlib.Omega.{arith}
 use lib.Dec.{eqb, leb}
 use lib.ListN.{length, getD, drop}
-use borrow.Author.Tests.{lt-leb, lt-ltb, le-ltb}
+use lib.Seq.{drop-append-seam}
+use borrow.Author.Tests.{lt-leb, lt-ltb, le-ltb, ne-eqb}
 use Rattle.dirf.specs.Bytes.{if_then_else_, Text, endsWith}
 use Rattle.dirf.specs.Limits.{lineLimit}
-use Rattle.dirf.specs.Lines.{isLineEnd, clean, unclean}
+use Rattle.dirf.specs.Lines.{clean, unclean}
+use Rattle.dirf.proofs.CleanLaws.{clean-unclean}
 use Rattle.checker.specs.Lines.{endOf, numberAt}
 
 -- what stands behind the bytes of a line
-pub drop-clean : (s : Text) → drop (length (clean s)) s ≡ unclean s
-unfolding clean unclean
-drop-clean [] = refl
-drop-clean (b ∷ s) = go (isLineEnd b) (drop-clean s)
-  where
-    go : (t : Bool) → drop (length (clean s)) s ≡ unclean s
-        → drop (length (if t then [] else b ∷ clean s)) (b ∷ s) ≡ (if t then b ∷ s else unclean s)
-    go true e = refl
-    go false e = e
+drop-clean : (s : Text) → drop (length (clean s)) s ≡ unclean s
+drop-clean s = ap (drop (length (clean s))) (clean-unclean s) ∙ drop-append-seam (clean s) (unclean s)
 
 -- the last byte
 pub last-none : (b : ℕ) (s : Text) → length s ≤ 0 → false ≡ endsWith b s
@@ -46,6 +41,9 @@ unfolding endOf
 ended [] = refl
 ended (b ∷ []) = refl
 ended (b ∷ c ∷ u) = rw (lt-leb (suc (suc (length u))) 0 (omega arith), lt-leb (suc (suc (length u))) 1 (omega arith))
+
+pub by-second : (u : Text) → 1 < length u → (getD u 0 0 ≡ 10 → ⊥) → endOf u ≡ (if eqb (getD u 1 0) 10 then 0 else 6)
+by-second u l h = rw (ended u, lt-leb (length u) 0 (omega arith), ne-eqb (getD u 0 0) 10 h, lt-leb (length u) 1 l)
 
 -- 4 past the limit, else what stands behind the bytes gives the number
 module _ (s : Text) {n : ℕ} (e : n ≡ length (clean s)) where

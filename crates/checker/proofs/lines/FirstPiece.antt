@@ -8,17 +8,18 @@ use native.Mathlib.Omega.{arith}
 use lib.Dec.{eqb, ltb}
 use lib.ListN.{length, take, drop}
 use lib.Seq.{take-append-seam, drop-append-add}
-use borrow.Author.Tests.{eqb-true, eqb-false, eq-eqb, ltb-false}
+use borrow.Author.Tests.{eqb-true, ltb-false}
 use Rattle.dirf.specs.Bytes.{if_then_else_, Text, isEmpty}
 use Rattle.dirf.specs.Limits.{CR, LF, lineLimit}
 use Rattle.dirf.specs.Lines.{Piece, push, pieces, isLineEnd, clean, unclean}
 use Rattle.dirf.specs.Rules.{Found, keeps, breaks, given, orElse}
 use Rattle.dirf.specs.Order.{nothingOrCR}
 use Rattle.dirf.specs.Theorems.Plain.{NoLineEnd}
-use Rattle.dirf.proofs.Bools.{if-cases}
+use Rattle.dirf.proofs.Bools.{and-left, and-right}
 use Rattle.dirf.proofs.CleanLaws.{lineEnd-says, clean-none, clean-unclean, clean-front, unclean-front, unclean-begins}
-use Rattle.dirf.proofs.WholeLaws.{pieces-front, line-piece, rest-piece}
+use Rattle.dirf.proofs.WholeLaws.{pieces-front, rest-piece}
 use Rattle.checker.specs.Lines.{endOf, numberAt}
+use Rattle.checker.proofs.Cases.{test}
 
 -- 4, 5 and 6 of a piece
 unfoldable pub scanFound : Piece → Found
@@ -58,76 +59,6 @@ begins b (c ∷ s) = go (eqb b CR && eqb c LF) (pieces (c ∷ s))
     go false [] = (record { body = b ∷ []; ended = false }, [], refl, λ _. cons≢nil)
     go false (p ∷ ps) = (record { body = b ∷ p .body; ended = p .ended }, ps, refl, λ _. cons≢nil)
 
-module _ (c : Text) (n : NoLineEnd c) where
-  -- 4, where it is too long; else what comes next
-  longer : (p : Piece) (u : Text) (n : ℕ) → p .body ≡ c ++ u → unclean u ≡ u → clean u ≡ []
-      → orElse (given 5 0 (not (p .ended) && nothingOrCR u)) (given 6 0 (not (isEmpty u))) ≡ foundOf n
-      → scanFound p ≡ foundOf (if ltb lineLimit (length c) then 4 else n)
-  unfolding scanFound orElse given foundOf
-  longer p u m e q w k =
-      rw (e, clean-front c u n, unclean-front c u n, w, q, append-nil)
-      (if-cases
-      (λ m. orElse (given 4 0 (ltb lineLimit (length c))) (orElse (given 5 0 (not (p .ended) && nothingOrCR u)) (given 6 0 (not (isEmpty u))))
-      ≡ foundOf m)
-      (ltb lineLimit (length c)) (λ t. rw t) (λ t. rw t k))
-
-  -- a number that is not 0 is not a whole line
-  not-whole : (s : Text) (m : ℕ) (p : Piece) (rest : List Piece) → m ≢ 0
-      → (if ltb lineLimit (length c) then 4 else m) ≡ 0 → WholeLine s c p rest
-  not-whole s m p rest z =
-      if-cases (λ n. n ≡ 0 → WholeLine s c p rest) (ltb lineLimit (length c)) (λ t e. absurd (omega arith)) (λ t e. absurd (z e))
-
-  -- the end of the input
-  at-end : (b : ℕ) (s : Text) → b ∷ s ≡ c → Read (b ∷ s) c (if ltb lineLimit (length c) then 4 else endOf [])
-  unfolding endOf foundOf given orElse nothingOrCR isEmpty clean unclean
-  at-end b s e =
-      record {
-        piece = record { body = b ∷ s; ended = false };
-        rest = [];
-        first = rest-piece b s (subst NoLineEnd (sym e) n);
-        told = longer (record { body = b ∷ s; ended = false }) [] 5 (e ∙ sym (append-nil c)) refl refl refl;
-        whole = not-whole (b ∷ s) 5 _ _ (λ z. omega arith);
-      }
-
-  -- a CR or LF that is not a line's end, or that the input ends behind
-  stopped-at : (r : Text) (q : Piece) (qs : List Piece) (m : ℕ) → pieces r ≡ q ∷ qs → unclean (q .body) ≡ q .body → clean (q .body) ≡ [] → m ≢ 0
-      → orElse (given 5 0 (not (q .ended) && nothingOrCR (q .body))) (given 6 0 (not (isEmpty (q .body)))) ≡ foundOf m → endOf r ≡ m
-      → Read (c ++ r) c (if ltb lineLimit (length c) then 4 else endOf r)
-  stopped-at r q qs m e u w z f t =
-      rw t
-      (record {
-        piece = record { body = c ++ q .body; ended = q .ended };
-        rest = qs;
-        first = pieces-front c r q qs n e;
-        told = longer (record { body = c ++ q .body; ended = q .ended }) (q .body) m refl u w f;
-        whole = not-whole (c ++ r) m _ _ z;
-      })
-
-  -- CR LF
-  ended-at : (t : Text) → Read (c ++ (CR ∷ LF ∷ t)) c (if ltb lineLimit (length c) then 4 else endOf (CR ∷ LF ∷ t))
-  unfolding endOf foundOf given orElse nothingOrCR isEmpty clean unclean
-  ended-at t =
-      record {
-        piece = record { body = c; ended = true };
-        rest = pieces t;
-        first = line-piece c t n;
-        told = longer (record { body = c; ended = true }) [] 0 (sym (append-nil c)) refl refl refl;
-        whole = if-cases (λ n. n ≡ 0 → WholeLine (c ++ (CR ∷ LF ∷ t)) c (record { body = c; ended = true }) (pieces t)) (ltb lineLimit (length c))
-            (λ w e. absurd (omega arith))
-            (λ w e. record {
-              is-piece = refl;
-              is-rest = ap pieces (sym (drop-append-add c (CR ∷ LF ∷ t) 2));
-              short = ltb-false lineLimit (length c) w;
-            });
-      }
-
-is-end : (b : ℕ) → (b ≡ 13) ⊎ (b ≡ 10) → isLineEnd b ≡ true
-is-end b h = lineEnd-says b .1 h
-
-starts-unclean : (b : ℕ) (s : Text) → (b ≡ 13) ⊎ (b ≡ 10) → (unclean (b ∷ s) ≡ b ∷ s) × (clean (b ∷ s) ≡ [])
-unfolding clean unclean
-starts-unclean b s h = (rw (is-end b h), rw (is-end b h))
-
 -- an open piece that begins with a CR or LF and goes on is no end of the input
 goes-on : (b : ℕ) (q : Piece) → (q .ended ≡ false → q .body ≢ []) → (not (q .ended) && nothingOrCR (b ∷ q .body)) ≡ false
 unfolding nothingOrCR
@@ -138,45 +69,74 @@ goes-on b q h = go (q .ended) (q .body) h
     go false [] h = absurd (h refl refl)
     go false (x ∷ s) h = refl
 
+starts-unclean : (b : ℕ) (s : Text) → (b ≡ 13) ⊎ (b ≡ 10) → (unclean (b ∷ s) ≡ b ∷ s) × (clean (b ∷ s) ≡ [])
+unfolding clean unclean
+starts-unclean b s h = let e = lineEnd-says b .1 h in (rw e, rw e)
+
+-- a text with no line's end, up to the end of the input
+open-piece : (c : Text) → NoLineEnd c → 0 < length (c ++ []) → pieces (c ++ []) ≡ record { body = c ++ []; ended = false } ∷ []
+open-piece [] n l = absurd (omega arith)
+open-piece (b ∷ s) n l = rw append-nil (rest-piece b s n)
+
 module _ (c : Text) (n : NoLineEnd c) where
-  -- two bytes and more, the first a CR or LF
-  two-bytes : (b d : ℕ) (t : Text) → (b ≡ 13) ⊎ (b ≡ 10)
-      → Read (c ++ (b ∷ d ∷ t)) c (if ltb lineLimit (length c) then 4 else endOf (b ∷ d ∷ t))
-  unfolding endOf foundOf given orElse isEmpty pieces push
-  two-bytes b d t h = go (eqb b CR) (eqb d LF) refl refl
-    where
-      q : Piece
-      q = begins d t .0
+  -- 4 where it is too long, else by what stands behind it
+  abbrev numbered : Text → ℕ
+  numbered r = if ltb lineLimit (length c) then 4 else endOf r
 
-      stray : (eqb b CR && eqb d LF) ≡ false → endOf (b ∷ d ∷ t) ≡ 6
-          → Read (c ++ (b ∷ d ∷ t)) c (if ltb lineLimit (length c) then 4 else endOf (b ∷ d ∷ t))
-      stray no-pair six =
-          let o = begins d t in
-          stopped-at c n (b ∷ d ∷ t) (record { body = b ∷ o .0 .body; ended = o .0 .ended }) (o .1) 6
-          (rw no-pair (ap (push b) (o .2)))
-          (starts-unclean b (o .0 .body) h .0) (starts-unclean b (o .0 .body) h .1) (λ z. omega arith)
-          (rw (goes-on b (o .0) (o .3))) six
+  -- a piece of what stands behind the line's own bytes, with none of them in it: it is a whole line where the piece is empty and ended
+  read-piece : (r : Text) (q : Piece) (qs : List Piece) (m : ℕ) → pieces (c ++ r) ≡ record { body = c ++ q .body; ended = q .ended } ∷ qs
+      → (unclean (q .body) ≡ q .body) × (clean (q .body) ≡ []) → endOf r ≡ m
+      → orElse (given 5 0 (not (q .ended) && nothingOrCR (q .body))) (given 6 0 (not (isEmpty (q .body)))) ≡ foundOf m
+      → (m ≡ 0 → (q ≡ record { body = []; ended = true }) × (qs ≡ pieces (drop 2 r)))
+      → Read (c ++ r) c (numbered r)
+  unfolding scanFound orElse given foundOf
+  read-piece r q qs m first bare end told whole =
+      rw end
+      (record {
+        piece = record { body = c ++ q .body; ended = q .ended };
+        rest = qs;
+        first = first;
+        told = rw (clean-front c (q .body) n, unclean-front c (q .body) n, bare .0, bare .1, append-nil)
+            (test (ltb lineLimit (length c)) (λ t. rw t) (λ t. rw t told));
+        whole = test (ltb lineLimit (length c))
+            (λ t. rw t (λ z. absurd (omega arith)))
+            (λ t.
+            rw t
+            (λ z.
+            record {
+              is-piece = ap (λ (x : Piece). record { body = c ++ x .body; ended = x .ended }) (whole z .0) ∙ rw append-nil;
+              is-rest = whole z .1 ∙ ap pieces (sym (drop-append-add c r 2));
+              short = ltb-false lineLimit (length c) t;
+            }));
+      })
 
-      go : (x y : Bool) → eqb b CR ≡ x → eqb d LF ≡ y
-          → Read (c ++ (b ∷ d ∷ t)) c (if ltb lineLimit (length c) then 4 else endOf (b ∷ d ∷ t))
-      go true true x y = rw (eqb-true b CR x, eqb-true d LF y) (ended-at c n t)
-      go true false x y = stray (rw (x, y)) (rw (eqb-true b CR x, y))
-      go false y x z = stray (rw x) (rw (⊎-elim (λ e. absurd (eqb-false b CR x e)) (eq-eqb b LF) h))
-
-  read-from : (u : Text) → ((b : ℕ) (t : Text) → u ≡ b ∷ t → (b ≡ 13) ⊎ (b ≡ 10)) → 0 < length (c ++ u)
-      → Read (c ++ u) c (if ltb lineLimit (length c) then 4 else endOf u)
-  unfolding endOf foundOf given orElse isEmpty pieces push nothingOrCR
-  read-from [] h l = go c refl
-    where
-      go : (s : Text) → c ≡ s → Read (c ++ []) c (if ltb lineLimit (length c) then 4 else 5)
-      go [] e = absurd (omega (arith, ap length (append-nil c ∙ e)))
-      go (b ∷ s) e = subst (λ x. Read x c (if ltb lineLimit (length c) then 4 else 5)) (sym (append-nil c ∙ e)) (at-end c n b s (sym e))
+  read-from : (u : Text) → ((b : ℕ) (t : Text) → u ≡ b ∷ t → (b ≡ 13) ⊎ (b ≡ 10)) → 0 < length (c ++ u) → Read (c ++ u) c (numbered u)
+  unfolding endOf foundOf given orElse isEmpty pieces push nothingOrCR clean unclean
+  -- the end of the input
+  read-from [] h l =
+      read-piece [] (record { body = []; ended = false }) [] 5 (open-piece c n l) (refl, refl) refl refl (λ z. absurd (omega arith))
+  -- one byte more
   read-from (b ∷ []) h l =
+      let q : Piece = record { body = b ∷ []; ended = false } in
+      let first = pieces-front c (b ∷ []) q [] n refl in
+      let bare = starts-unclean b [] (h b [] refl) in
       ⊎-elim
-      (λ e. stopped-at c n (b ∷ []) (record { body = b ∷ []; ended = false }) [] 5 refl (starts-unclean b [] (inl e) .0) (starts-unclean b [] (inl e) .1) (λ z. omega arith) (rw e) (rw e))
-      (λ e. stopped-at c n (b ∷ []) (record { body = b ∷ []; ended = false }) [] 6 refl (starts-unclean b [] (inr e) .0) (starts-unclean b [] (inr e) .1) (λ z. omega arith) (rw e) (rw e))
+      (λ e. read-piece (b ∷ []) q [] 5 first bare (rw e) (rw e) (λ z. absurd (omega arith)))
+      (λ e. read-piece (b ∷ []) q [] 6 first bare (rw e) (rw e) (λ z. absurd (omega arith)))
       (h b [] refl)
-  read-from (b ∷ d ∷ t) h l = two-bytes b d t (h b (d ∷ t) refl)
+  -- CR LF, or a CR or LF that is not a line's end
+  read-from (b ∷ d ∷ t) h l =
+      test (eqb b CR && eqb d LF)
+      (λ y.
+      rw (eqb-true b CR (and-left (eqb b CR) _ y), eqb-true d LF (and-right (eqb b CR) _ y))
+      (read-piece (CR ∷ LF ∷ t) (record { body = []; ended = true }) (pieces t) 0
+      (pieces-front c (CR ∷ LF ∷ t) (record { body = []; ended = true }) (pieces t) n refl) (refl, refl) refl refl (λ _. (refl, refl))))
+      (λ y.
+      let o = begins d t in
+      let q : Piece = record { body = b ∷ o .0 .body; ended = o .0 .ended } in
+      read-piece (b ∷ d ∷ t) q (o .1) 6 (pieces-front c (b ∷ d ∷ t) q (o .1) n (rw y (ap (push b) (o .2))))
+      (starts-unclean b (o .0 .body) (h b (d ∷ t) refl)) (⊎-elim (λ e. rw (e, rw e at y)) (λ e. rw e) (h b (d ∷ t) refl))
+      (rw (goes-on b (o .0) (o .3))) (λ z. absurd (omega arith)))
 
 pub read : (s : Text) → 0 < length s → Read s (clean s) (numberAt s)
 unfolding numberAt

@@ -1,7 +1,7 @@
 -- What the code's tests over the state come to.
 use Prim.Native.Nat.{ℕ, zero, suc, _-_, _≤_, _<_}
-use mathlib.Core.Path.{_≡_, refl, ap, sym}
-use mathlib.Core.Bool.{Bool, true, false, or-false}
+use mathlib.Core.Path.{_≡_, refl, ap}
+use mathlib.Core.Bool.{Bool, true, false}
 use mathlib.Core.List.{List, [], _∷_}
 use native.Mathlib.Omega.{arith}
 use lib.Dec.{eqb}
@@ -13,6 +13,7 @@ use Rattle.dirf.specs.Keys.{keyFields, hasKey}
 use Rattle.layout.specs.Tables.{holdsIn}
 use Rattle.checker.specs.State.{above, heldIn, standsOn, belowOn}
 use Rattle.checker.specs.declared.state.State.{State}
+use Rattle.checker.proofs.Cases.{test}
 
 -- what stands outside place j
 pub above-none : (opened : List ℕ) (j : ℕ) → j ≡ 0 → 0 ≡ above opened j
@@ -41,18 +42,10 @@ unfolding heldIn
 held-step below d opened k zero l a e = absurd (omega arith)
 held-step below d opened k (suc i) {u} {t} l a e = let j : suc i - 1 ≡ i = omega arith in let holds = rw (a, j) at e in rw (← holds, j)
 
--- the opening lines
-pub first-line : (st : State) (k d : ℕ) → st .count ≡ 0 → eqb k 1 ≡ standsOn st k d
-unfolding standsOn opening bytes-opens
-first-line st k d e = rw e (sym (or-false (eqb k 1)))
-
-pub second-line : (st : State) (k d : ℕ) → st .count ≡ 1 → eqb k 2 ≡ standsOn st k d
-unfolding standsOn opening bytes-opens
-second-line st k d e = rw e (sym (or-false (eqb k 2)))
-
-pub third-line : (st : State) (k d : ℕ) → st .count ≡ 2 → isIn k (3 ∷ 4 ∷ []) ≡ standsOn st k d
+-- the opening lines, and those after
+pub opening-line : (st : State) (k d n : ℕ) → st .count ≡ n → n < 3 → isIn k (getD opening n []) ≡ standsOn st k d
 unfolding standsOn opening
-third-line st k d e = rw e
+opening-line st k d n e l = rw (e, lt-ltb n 3 l)
 
 pub later-line : (st : State) (k d : ℕ) → 3 ≤ st .count → belowOn (st .path) k d ≡ standsOn st k d
 unfolding standsOn opening
@@ -61,11 +54,7 @@ later-line st k d l = rw (le-ltb (st .count) 3 l)
 -- a DECPF or DECPJ
 pub is-declarant : (k : ℕ) → 3 ≤ k → k < 5 → true ≡ isIn k (3 ∷ 4 ∷ [])
 unfolding bytes-opens
-is-declarant k l h = go (eqb k 3) refl
-  where
-    go : (t : Bool) → eqb k 3 ≡ t → true ≡ isIn k (3 ∷ 4 ∷ [])
-    go true e = rw e
-    go false e = rw (e, eq-eqb k 4 (omega (arith, eqb-false k 3 e)))
+is-declarant k l h = test (eqb k 3) (λ e. rw e) (λ e. rw (e, eq-eqb k 4 (omega (arith, eqb-false k 3 e))))
 
 pub no-declarant : (k : ℕ) → (k ≡ 3 → ⊥) → (k ≡ 4 → ⊥) → false ≡ isIn k (3 ∷ 4 ∷ [])
 unfolding bytes-opens
