@@ -41,7 +41,7 @@ use Rattle.checker.specs.declared.turn.Stepped.{Stepped}
 use Rattle.checker.specs.declared.turn.Record.{Record}
 use Rattle.checker.proofs.state.Sums.{Sums, sums-start, parent-same}
 use Rattle.checker.proofs.state.Next.{sums-next, held-few}
-use Rattle.checker.proofs.turn.Outcome.{early, lookRule, refusal, ln, kd, readAs, Took, Outcome, Turned, answer-is, there, looked-is}
+use Rattle.checker.proofs.turn.Outcome.{early, lookRule, ln, kd, readAs, Took, Outcome, Turned, answer-is, there, looked-is}
 use Rattle.checker.proofs.turn.Outcome.{small, turned}
 use Rattle.checker.proofs.Cases.{test}
 
@@ -52,7 +52,8 @@ behind (suc n) s = behind n (behindLine s)
 
 -- The state sums up the records read so far, and what the rest of the file comes to is what the file comes to. Line 3 is the one by
 -- which the table below was chosen.
-pub record Reading (e : Edition) (below : List (List ℕ)) (file : Text) (room : ℕ) (st : State) (past : Past) (before : List Rec) : Type 0 where
+pub record Reading (e : Edition) (below : List (List ℕ)) (file : Text) (room : ℕ) (st : State) (past : Past) (before : List Rec)
+    : Type 0 where
   pub sums : Sums e below file st past before
   pub rest : run e room before (pieces (drop (st .at) file)) ≡ verdict e file room
   pub few : st .count ≤ linesLimit
@@ -144,23 +145,18 @@ module _ {e : Edition} {below : List (List ℕ)} {file : Text} {room : ℕ} {st 
   end-step : length file ≤ st .at → (d : Bool) → st .done ≡ d
       → Step (if d then haltAt (record { number = 0; line = st .count; field = 0; entries = st .count }) else halt st 1 0)
   unfolding run noBytesLeft accepted refused answerOf pieces
-  end-step l d q = go d (ap (λ t. if t then accepted before else refused before 1 0) (sym q ∙ h .sums .done) ∙ on)
+  end-step l d q =
+      go d
+      (ap (λ t. if t then accepted before else refused before 1 0) (sym q ∙ h .sums .done)
+      ∙ sym (ap (λ s. run e room before (pieces s)) (drop-of-length-le file l)) ∙ h .rest)
     where
-      on : noBytesLeft before ≡ verdict e file room
-      on = sym (ap (λ s. run e room before (pieces s)) (drop-of-length-le file l)) ∙ h .rest
-
-      n : st .count ≡ length before
-      n = h .sums .count
-
-      answers : (number : ℕ) {line last : ℕ} → line ≡ last
-          → _≡_ {A = Answer} (record { number = number; line = line; field = 0; entries = st .count })
-          (record { number = number; line = last; field = 0; entries = length (tableOf before) })
-      answers number q = ap₂ (λ x y. record { number = number; line = x; field = 0; entries = y }) q (n ∙ sym (table-length before))
-
       go : (t : Bool) → (if t then accepted before else refused before 1 0) ≡ verdict e file room
           → Step (if t then haltAt (record { number = 0; line = st .count; field = 0; entries = st .count }) else halt st 1 0)
-      go true q = stopped _ refl (ends _ (accepted before) (answers 0 n) refl q)
-      go false q = stopped _ refl (ends _ (refused before 1 0) (answers 1 (omega (arith, n))) refl q)
+      go true w =
+          let n = h .sums .count in
+          stopped _ refl
+          (ends _ (accepted before) (ap₂ (λ x y. record { number = 0; line = x; field = 0; entries = y }) n (n ∙ sym (table-length before))) refl w)
+      go false w = stopped _ refl (ends _ (refused before 1 0) (answer-is (h .sums) 1 0) refl w)
 
   module _ {names rows : List ℕ} (all : SayAll e names rows below file) where
     -- the declarant after one more line
@@ -188,11 +184,9 @@ module _ {e : Edition} {below : List (List ℕ)} {file : Text} {room : ℕ} {st 
       unfolding run
       on b = sym (ap (λ f. afterLine before f later) b) ∙ sym (ap (run e room before) (t .first-of)) ∙ h .rest
 
-      broken : (n f : ℕ) (a : Answer) → breach e room before p ≡ breaks n f → a ≡ refusal before n f → Stop a
-      unfolding afterLine refused answerOf
-      broken n f a b q =
-          ends a (refused before n f)
-          (q ∙ ap (λ x. record { number = n; line = suc (length before); field = f; entries = x }) (sym (table-length before))) refl (on b)
+      broken : (n f : ℕ) (a : Answer) → breach e room before p ≡ breaks n f → a ≡ answerOf (refused before n f) → Stop a
+      unfolding afterLine refused
+      broken n f a b q = ends a (refused before n f) q refl (on b)
 
       module _ (kept : first early (here e room before p) ≡ keeps) (o : Took (h .sums) p (t .rest) s) where
         abbrev r′ : Record

@@ -35,7 +35,8 @@ use Rattle.checker.proofs.state.Sums.{Stack, PathIs, parentIn, Remember
 use Rattle.checker.proofs.Cases.{test}
 
 -- open records further out than d stay where they are
-stack-on : (lines kinds : List ℕ) (d n k : ℕ) (os : List Open) → length os ≤ d → Stack lines kinds os → Stack (set lines d n) (set kinds d k) os
+stack-on : (lines kinds : List ℕ) (d n k : ℕ) (os : List Open) → length os ≤ d → Stack lines kinds os
+    → Stack (set lines d n) (set kinds d k) os
 stack-on lines kinds d n k [] fits s = tt
 stack-on lines kinds d n k (o ∷ outer) fits s = (
   record {

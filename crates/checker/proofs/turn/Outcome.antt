@@ -17,6 +17,8 @@ use Rattle.dirf.specs.Rules.{Found, keeps, breaks, given, orElse, Rule, ask, fi
 use Rattle.dirf.specs.Tree.{Rec, mayStand, parentOf, declarant}
 use Rattle.dirf.specs.Keys.{hasKey, lastUnder, isSome, notAfter}
 use Rattle.dirf.specs.Order.{Here, here, kindOfLine, closed, limits, lineEnds, kind, place, fieldCount, contents, line-opens}
+use Rattle.dirf.specs.Check.{refused}
+use Rattle.dirf.proofs.History.{table-length}
 use Rattle.dirf.proofs.Asked.{given-false, or-else-left, or-else-right}
 use Rattle.dirf.proofs.RulesPut.{or-assoc}
 use Rattle.fields.specs.Places.{mostFields, partOf, placesOf, cellAt, cellsAt}
@@ -31,7 +33,7 @@ use Rattle.checker.specs.Lines.{numberAt}
 use Rattle.checker.specs.State.{heldAt, lastIn, placeFound, lookFound}
 use Rattle.checker.specs.Turn.{refusedAt, halt, foundStep, went, lookedFound, filledFound}
 use Rattle.checker.specs.Turn.{readStep, recordOf, recordStep, lineStep, turnOf}
-use Rattle.checker.specs.declared.Answer.{Answer}
+use Rattle.checker.specs.Answers.{answerOf}
 use Rattle.checker.specs.declared.state.Past.{Past}
 use Rattle.checker.specs.declared.state.State.{State}
 use Rattle.checker.specs.declared.turn.Record.{Record}
@@ -76,14 +78,10 @@ early-is : (e : Edition) (room : ℕ) (before : List Rec) (p : Piece)
 unfolding first ask askedOf over line-opens scanFound contentsFound
 early-is e room before p = simp (← or-assoc, or-keeps)
 
--- the answer where the line after these is refused
-abbrev pub refusal : List Rec → ℕ → ℕ → Answer
-refusal before n f = record { number = n; line = suc (length before); field = f; entries = length before }
-
 -- a line was refused
 pub record Gave (before : List Rec) (s : Stepped) (n f : ℕ) : Type 0 where
   pub stopped : s .stop ≡ true
-  pub answer : s .answer ≡ refusal before n f
+  pub answer : s .answer ≡ answerOf (refused before n f)
 
 module _ {e : Edition} {below : List (List ℕ)} {file : Text} {st : State} {past : Past} {before : List Rec}
     (h : Sums e below file st past before) where
@@ -130,8 +128,10 @@ module _ {e : Edition} {below : List (List ℕ)} {file : Text} {st : State} {pas
     pub first-of : pieces left ≡ piece ∷ rest
     pub outcome : Outcome piece rest s (first early (here e room before piece))
 
-  pub answer-is : (n f : ℕ) → refusedAt (st .count) n f ≡ refusal before n f
-  answer-is n f = ap₂ (λ x y. record { number = n; line = x; field = f; entries = y }) (omega (arith, h .count)) (h .count)
+  pub answer-is : (n f : ℕ) → refusedAt (st .count) n f ≡ answerOf (refused before n f)
+  unfolding answerOf refused
+  answer-is n f =
+      ap₂ (λ x y. record { number = n; line = x; field = f; entries = y }) (omega (arith, h .count)) (h .count ∙ sym (table-length before))
 
   gave : (n f : ℕ) → Gave before (halt st n f) n f
   gave n f = record { stopped = refl; answer = answer-is n f }
