@@ -14,7 +14,8 @@ use Rattle.checker.specs.Lines.{thirdKind}
 use Rattle.checker.specs.Answers.{SayAll}
 
 module _ (file : Text) {names rows : List ℕ} {below : List (List ℕ)} (r : rows ≡ rowTable edition2025) where
-  with-table : names ≡ nameTable edition2025 → below ≡ belowTable edition2025 (thirdKind names file) → SayAll edition2025 names rows below file
+  with-table : names ≡ nameTable edition2025 → below ≡ belowTable edition2025 (thirdKind names file)
+      → SayAll edition2025 names rows below file
   with-table n b =
       record {
         sound = sound2025;

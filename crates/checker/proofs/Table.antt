@@ -57,7 +57,8 @@ module _ (t : List ℕ) (es : List Entry) where
       → putEntry (withEntries (take m es) t) (length es) (entryNumbers x) ≡ withEntries (take m (es ++ (x ∷ []))) t
   put-next x =
       less (length es) m
-      (λ l. rw (take-all m es (omega arith), take-all m (es ++ (x ∷ [])) (simp length-append (omega arith))) (put-one t es (omega arith) x l))
+      (λ l.
+      rw (take-all m es (omega arith), take-all m (es ++ (x ∷ [])) (simp length-append (omega arith))) (put-one t es (omega arith) x l))
       (λ l.
       rw (take-append-le m es (x ∷ []) l) (put-none t (take m es) (omega (arith, length-take-le m es l)) (length es) (entryNumbers x) l))
 

@@ -1,7 +1,7 @@
 -- What the check leaves behind is what specs/Left says, whatever the file and the table: told of the contract of `check`.
 use Prim.Native.Nat.{ℕ, _+_, _-_, _*_, _/_, _≤_}
 use mathlib.Core.Path.{_≡_, refl, sym, _∙_, subst}
-use mathlib.Core.List.{List, [], _∷_, _++_}
+use mathlib.Core.List.{List, _++_}
 use native.Mathlib.Omega.{arith}
 use lib.ListN.{length, getD, drop}
 use lib.Seq.{length-front, length-take-le, take-at, getD-append-add, getD-drop}
@@ -9,7 +9,7 @@ use denote.Ref.{now}
 use Rattle.dirf.specs.Bytes.{Text}
 use Rattle.dirf.specs.Limits.{numbersAnEntry}
 use Rattle.dirf.specs.Edition.{edition2025}
-use Rattle.dirf.specs.Check.{Entry, numbersOf, Verdict, verdict}
+use Rattle.dirf.specs.Check.{numbersOf, Verdict, verdict}
 use Rattle.dirf.proofs.Demands.{demands2025}
 use Rattle.checker.specs.Answers.{answerOf, withEntries, tableAfter}
 use Rattle.checker.specs.Left.{Left}

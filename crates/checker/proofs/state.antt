@@ -1,4 +1,2 @@
 pub mod Tests
 pub mod Sums
-pub mod LookingBack
-pub mod Next

@@ -2,7 +2,7 @@
 use Prim.Native.Nat.{ℕ, zero, suc, _+_, _≤_, _<_}
 use mathlib.Core.Path.{_≡_, refl, sym, ap, _∙_, subst}
 use mathlib.Core.Bool.{Bool, true, false, _&&_, not, true≢false}
-use mathlib.Core.Logic.{_≢_, _⊎_, inl, inr, ⊎-elim}
+use mathlib.Core.Logic.{_≢_, _⊎_, ⊎-elim}
 use mathlib.Core.List.{List, [], _∷_, _++_, append-nil, cons≢nil}
 use native.Mathlib.Omega.{arith}
 use lib.Dec.{eqb, ltb}
@@ -11,7 +11,7 @@ use lib.Seq.{take-append-seam, drop-append-add}
 use borrow.Author.Tests.{eqb-true, ltb-false}
 use Rattle.dirf.specs.Bytes.{if_then_else_, Text, isEmpty}
 use Rattle.dirf.specs.Limits.{CR, LF, lineLimit}
-use Rattle.dirf.specs.Lines.{Piece, push, pieces, isLineEnd, clean, unclean}
+use Rattle.dirf.specs.Lines.{Piece, push, pieces, clean, unclean}
 use Rattle.dirf.specs.Rules.{Found, keeps, breaks, given, orElse}
 use Rattle.dirf.specs.Order.{nothingOrCR}
 use Rattle.dirf.specs.Theorems.Plain.{NoLineEnd}

@@ -1,13 +1,12 @@
 -- What is left of the numbers goes where the last one ended.
 use Prim.Native.Nat.{ℕ, suc, _+_, _-_, _≤_, _<_}
-use mathlib.Core.Path.{_≡_, refl, sym, _∙_}
+use mathlib.Core.Path.{_≡_, sym, _∙_}
 use mathlib.Core.List.{List}
 use native.Mathlib.Nat.{add-zero}
 use native.Mathlib.Numerals.{add-one}
 use native.Mathlib.Omega.{arith}
 use lib.ListN.{length, getD, set, drop, length-set, drop-of-length-le}
 use lib.Seq.{sets, drop-cons}
-use borrow.Author.Needs.{needs}
 use Rattle.checker.proofs.put_numbers.Statement.{statement}
 use Rattle.checker.proofs.put_numbers.Tie as tie
 

@@ -1,29 +1,40 @@
 -- What the state sums up of the records read so far.
-use Prim.Native.Nat.{ℕ, zero, suc, _≤_, _<_}
+use Prim.Native.Nat.{ℕ, zero, suc, _≤_, _<_, _+_}
 use mathlib.Core.Path.{_≡_, refl, sym, ap, ap₂, _∙_, subst}
-use mathlib.Core.Bool.{true, _&&_, _||_}
+use mathlib.Core.Bool.{true, _&&_, _||_, Bool, false, not, and-true}
 use mathlib.Core.List.{List, [], _∷_}
 use mathlib.Core.Option.{Option, none, some}
+use mathlib.Core.Logic.{_≢_}
 use native.Mathlib.Omega.{arith}
+use native.Mathlib.Numerals.{add-one}
 use lib.Dec.{eqb, ltb, leb}
-use lib.ListN.{length, getD, getD-replicate}
-use borrow.Author.Tests.{lt-ltb, le-ltb}
+use lib.ListN.{length, getD, getD-replicate, set, length-set}
+use lib.Seq.{getD-set-same, getD-set-other}
+use borrow.Author.Tests.{lt-ltb, le-ltb, ne-eqb, eqb-true, eqb-false}
 use Rattle.dirf.specs.Bytes.{if_then_else_, Text, isIn}
-use Rattle.dirf.specs.Kinds.{FIMDirf}
+use Rattle.dirf.specs.Kinds.{FIMDirf, values, standsOnce, isValue, opensNothing}
 use Rattle.dirf.specs.Edition.{Edition}
 use Rattle.dirf.specs.Tree.{Rec, Open, opened, opening, declarant, mayHold, kindOfFirst, numberOfFirst, Place, placeIn, place, parentOf}
 use Rattle.dirf.specs.Tree.{inOrder, isPlaced, mayStand}
 use Rattle.dirf.specs.Order.{closed}
 use Rattle.dirf.specs.Check.{bytesOf}
 use Rattle.dirf.specs.Theorems.Sound.{level, Sound}
-use Rattle.dirf.proofs.History.{History, start}
+use Rattle.dirf.specs.Lines.{fields, field}
+use Rattle.dirf.specs.Rules.{given, orElse}
+use Rattle.dirf.specs.Keys.{hasKey, keyOf, keyLess, lastUnder, isSome, notAfter}
+use Rattle.dirf.proofs.History.{History, start, next}
 use Rattle.dirf.proofs.Parents.{has-parent}
-use Rattle.dirf.proofs.OpenRecords.{placed}
+use Rattle.dirf.proofs.OpenRecords.{placed, OpenRecords, none-open, innermost, first-number, Placed}
 use Rattle.dirf.proofs.ValuePlace.{open-depth}
-use Rattle.dirf.proofs.LastOfKind.{lastOf}
+use Rattle.dirf.proofs.LastOfKind.{lastOf, ifUnder, last-by-kind}
+use Rattle.dirf.proofs.Says.{isIn-says}
+use Rattle.dirf.proofs.Levels.{key-below, value-level, opens-level}
+use Rattle.fields.specs.Places.{keyParts, partOf}
+use Rattle.fields.proofs.PlaceLaws.{key-of-cells}
 use Rattle.layout.specs.Tables.{kinds}
 use Rattle.layout.specs.LaidOut.{SayBelow}
 use Rattle.checker.specs.State.{deepest, startState, startPast, lastIn, above, heldIn, heldAt, orderAt, belowOn, standsOn, lastLine}
+use Rattle.checker.specs.State.{stoodOn, repeatedOn, keyOn, lookFound, declarantOf, pathAfter, pastAfter, stateAfter}
 use Rattle.checker.specs.declared.state.Path.{Path}
 use Rattle.checker.specs.declared.state.Past.{Past}
 use Rattle.checker.specs.declared.state.State.{State}
@@ -169,3 +180,184 @@ module _ {e : Edition} {below : List (List ℕ)} {text : Text} {st : State} {pas
       (λ later.
       rw (le-ltb (length before) 3 later)
       (ap₂ (λ n o. eqb k FIMDirf || ltb 0 n && o) (located later .deep) (order-same later)))
+
+-- The rules that look back ask the same of the state as of the records: 21 and 20.
+
+-- an open record has a line
+line-of : {before : List Rec} {n l : ℕ} {up : List Open} → OpenRecords before n l up → 0 < length up → 0 < numberOfFirst up
+unfolding numberOfFirst
+line-of (none-open z) h = absurd (omega arith)
+line-of (innermost a b known rest) h = omega (arith, first-number rest)
+
+module _ {e : Edition} {below : List (List ℕ)} {text : Text} {st : State} {past : Past} {before : List Rec}
+    (h : Sums e below text st past before) (k : ℕ) (small : k < kinds) (stands : mayStand e before k ≡ true) where
+  abbrev p : ℕ
+  p = parentOf e before k
+
+  line-above : 0 < level k → 0 < p
+  unfolding parentOf
+  line-above deep = line-of (placed e (h .sound) (h .history) k .known) (has-parent e before k deep stands .1)
+
+  -- a kind stood under its parent before exactly where the state remembers that parent: what is asked of its line then
+  asked-same : (f : Text → Bool) (g : Option Rec → Bool) → g none ≡ false → ((r : Rec) → f (r .line) ≡ g (some r)) → 0 < level k
+      → (stoodOn (lastIn past k) p && f (lastLine text (lastIn past k))) ≡ g (lastUnder before p k)
+  unfolding stoodOn lastIn parentIn ifUnder
+  asked-same f g of-none of-some deep =
+      ap (λ u. eqb u p && f (lastLine text (lastIn past k))) (h .past .under k small) ∙ go (lastOf before k) refl
+      ∙ ap g (sym (last-by-kind e (h .sound) (h .history) k stands deep))
+    where
+      go : (l : Option Rec) → lastOf before k ≡ l → (eqb (parentIn l) p && f (lastLine text (lastIn past k))) ≡ g (ifUnder p l)
+      go none q = rw (ne-eqb 0 p (λ z. omega (arith, line-above deep))) (sym of-none)
+      go (some r) q =
+          test (eqb (r .parent) p) (λ t. rw t (ap f (h .past .line k small r q) ∙ of-some r)) (λ t. rw t (sym of-none))
+
+  -- 21
+  repeated-same : repeatedOn (lastIn past k) k p ≡ (standsOnce k && isSome (lastUnder before p k))
+  unfolding repeatedOn standsOnce isSome
+  repeated-same =
+      test (standsOnce k)
+      (λ t.
+      rw t
+      (sym (and-true _)
+      ∙ asked-same (λ _. true) isSome refl (λ r. refl) (omega (arith, value-level (isIn-says k values .0 t)))))
+      (λ t. rw t)
+
+  -- 20
+  key-same : (second third : Text) (cells : List Text) → second ≡ field 2 cells → third ≡ field 3 cells
+      → keyOn text (lastIn past k) k p second third ≡ (hasKey k && notAfter k cells (lastUnder before p k))
+  unfolding keyOn notAfter
+  key-same second third cells x y =
+      test (hasKey k)
+      (λ t.
+      rw t
+      (asked-same (λ line. not (keyLess (keyOf k (fields line)) (keyParts k second third))) (notAfter k cells) refl
+      (λ r. ap (λ m. not (keyLess (keyOf k (fields (r .line))) m)) (ap₂ (keyParts k) x y ∙ sym (key-of-cells k cells))) (key-below k t)))
+      (λ t. rw t)
+
+  -- 21 and 20
+  pub look-same : (second third : Text) (cells : List Text) → second ≡ field 2 cells → third ≡ field 3 cells
+      → lookFound text (lastIn past k) k p second third
+      ≡ orElse (given 21 1 (standsOnce k && isSome (lastUnder before p k)))
+      (given 20 2 (hasKey k && notAfter k cells (lastUnder before p k)))
+  unfolding lookFound
+  look-same second third cells x y =
+      ap₂ (λ s t. orElse (given 21 1 s) (given 20 2 t)) repeated-same (key-same second third cells x y)
+
+-- The state after a record that was taken sums up the records with that one.
+
+-- open records further out than d stay where they are
+stack-on : (lines kinds : List ℕ) (d n k : ℕ) (os : List Open) → length os ≤ d → Stack lines kinds os
+    → Stack (set lines d n) (set kinds d k) os
+stack-on lines kinds d n k [] fits s = tt
+stack-on lines kinds d n k (o ∷ outer) fits s = (
+  record {
+    number = getD-set-other lines d (length outer) n 0 (λ q. omega arith) ∙ s .0 .number;
+    kind = getD-set-other kinds d (length outer) k 0 (λ q. omega arith) ∙ s .0 .kind;
+  },
+  stack-on lines kinds d n k outer (omega arith) (s .1),
+)
+
+-- the path after a record, with the open records `up` outside it
+path-next : (p : Path) (os up : List Open) → PathIs p os → Stack (p .lines) (p .kinds) up → (k n : ℕ)
+    → (opensNothing k ≡ false → length up < deepest)
+    → PathIs (pathAfter p k (length up) n) (if opensNothing k then up else (record { number = n; kind = k } ∷ up))
+unfolding pathAfter
+path-next p os up is stack k n deep =
+    test (opensNothing k)
+    (λ t. rw t (record { lines = is .lines; kinds = is .kinds; depth = refl; stack = stack }))
+    (λ t.
+    let d : ℕ = length up in
+    let l : d < deepest = deep t in
+    rw t
+    (record {
+      lines = length-set (p .lines) d n ∙ is .lines;
+      kinds = length-set (p .kinds) d k ∙ is .kinds;
+      depth = add-one d;
+      stack = (
+        record {
+          number = getD-set-same (p .lines) d n 0 (omega (arith, is .lines));
+          kind = getD-set-same (p .kinds) d k 0 (omega (arith, is .kinds));
+        },
+        stack-on (p .lines) (p .kinds) d n k up (omega arith) stack,
+      );
+    }))
+
+-- what is remembered after a record whose line stands in the text
+past-next : (text : Text) (p : Past) (before : List Rec) → Remembers text p before → (r : Rec) (at len : ℕ) → r .kind < kinds
+    → partOf text at len ≡ r .line → Remembers text (pastAfter p (r .kind) (r .parent) at len) (r ∷ before)
+unfolding pastAfter lastIn lastLine lastOf parentIn
+past-next text p before m r at len small there =
+    record {
+      sizes = (
+        length-set (p .under) (r .kind) (r .parent) ∙ m .sizes .0,
+        length-set (p .starts) (r .kind) at ∙ m .sizes .1,
+        length-set (p .lens) (r .kind) len ∙ m .sizes .2,
+      );
+      under = λ k s.
+          test (eqb (r .kind) k)
+          (λ t. rw (t, ← eqb-true (r .kind) k t) (getD-set-same (p .under) (r .kind) (r .parent) 0 (omega (arith, m .sizes .0))))
+          (λ t. rw (t, getD-set-other (p .under) (r .kind) k (r .parent) 0 (λ q. eqb-false (r .kind) k t (sym q))) (m .under k s));
+      line = λ k s x.
+          test (eqb (r .kind) k)
+          (λ t.
+          rw (
+            t,
+            ← eqb-true (r .kind) k t,
+            getD-set-same (p .starts) (r .kind) at 0 (omega (arith, m .sizes .1)),
+            getD-set-same (p .lens) (r .kind) len 0 (omega (arith, m .sizes .2)),
+          ) (λ q. there ∙ same q))
+          (λ t.
+          let other : k ≢ r .kind = λ z. eqb-false (r .kind) k t (sym z) in
+          rw (t, getD-set-other (p .starts) (r .kind) k at 0 other, getD-set-other (p .lens) (r .kind) k len 0 other) (m .line k s x));
+    }
+  where
+    same : {x : Rec} → some r ≡ some x → r .line ≡ x .line
+    same q = cc
+
+-- the declarant is the record of line 3
+next-declares : (st : State) (before : List Rec) (r : Rec) → st .count ≡ length before → st .declarant ≡ declarant before
+    → declarantOf st (r .kind) ≡ declarant (r ∷ before)
+unfolding declarantOf declarant opening
+next-declares st before r n d = rw (n, d) (ap (λ t. if t then r .kind else declarant before) (same-test (length before)))
+  where
+    same-test : (n : ℕ) → eqb n 2 ≡ eqb (suc n) 3
+    same-test n =
+        test (eqb n 2)
+        (λ t. rw (t, eqb-true n 2 t))
+        (λ t. rw (t, ne-eqb (suc n) 3 (λ e. eqb-false n 2 t (omega arith))))
+
+-- no kind stands lower than a value record
+level-most : (k : ℕ) → level k ≤ deepest
+unfolding isValue
+level-most k =
+    test (isValue k) (λ t. omega (arith, value-level (isIn-says k values .0 t))) (λ t. omega (arith, opens-level k t))
+
+module _ {e : Edition} {below : List (List ℕ)} {text : Text} {st : State} {past : Past} {before : List Rec}
+    (h : Sums e below text st past before) (k : ℕ) (stands : mayStand e before k ≡ true) where
+  pub held-few : heldAt below st k ≤ deepest
+  held-few = omega (arith, held-same h k stands .0, open-depth (placed e (h .sound) (h .history) k .known), level-most k)
+
+  pub sums-next : (line : Text) → partOf text (st .at) (length line) ≡ line → k < kinds
+      → let r : Rec = record { kind = k; line = line; parent = parentOf e before k } in
+      (3 ≤ length (r ∷ before) → SayBelow e (declarant (r ∷ before)) below)
+      → Sums e below text (stateAfter st k (heldAt below st k) (length line))
+      (pastAfter past k (above (st .path .lines) (heldAt below st k)) (st .at) (length line)) (r ∷ before)
+  unfolding stateAfter closed bytesOf opened parentOf isValue opensNothing
+  sums-next line there small say =
+      let r : Rec = record { kind = k; line = line; parent = parentOf e before k } in
+      let q : Placed e (declarant before) k before (suc (length before)) (opened before) (place e before k .up) =
+      placed e (h .sound) (h .history) k in
+      let held = held-same h k stands in
+      record {
+        sound = h .sound;
+        say-below = say;
+        count = rw (h .count) (add-one (length before));
+        at = rw (h .at);
+        done = refl;
+        declares = next-declares st before r (h .count) (h .declares);
+        path = rw (held .0, q .found, h .count, add-one (length before))
+            (path-next (st .path) (opened before) (place e before k .up) (h .path) (held .1) k (suc (length before))
+            (λ t. omega (arith, open-depth (q .known), opens-level k t)));
+        past = rw (parent-same h k stands) (past-next text past before (h .past) r (st .at) (length line) small there);
+        history = next stands refl (h .history);
+      }

@@ -31,16 +31,15 @@ use Rattle.rules.specs.Findings.{contentsFound}
 use Rattle.rules.proofs.Laws.{or-keeps}
 use Rattle.checker.specs.Lines.{numberAt}
 use Rattle.checker.specs.State.{heldAt, lastIn, placeFound, lookFound}
-use Rattle.checker.specs.Turn.{refusedAt, halt, foundStep, went, lookedFound, filledFound}
-use Rattle.checker.specs.Turn.{readStep, recordOf, recordStep, lineStep, turnOf}
+use Rattle.checker.specs.Turn.{refusedAt, halt, foundStep, went, lookedFound, filledFound, readStep, recordOf, recordStep, lineStep}
+use Rattle.checker.specs.Turn.{turnOf}
 use Rattle.checker.specs.Answers.{answerOf}
 use Rattle.checker.specs.declared.state.Past.{Past}
 use Rattle.checker.specs.declared.state.State.{State}
 use Rattle.checker.specs.declared.turn.Record.{Record}
 use Rattle.checker.specs.declared.turn.Stepped.{Stepped}
 use Rattle.checker.proofs.lines.FirstPiece.{scanFound, foundOf, Read, read, line-is}
-use Rattle.checker.proofs.state.Sums.{Sums, parent-same, stands-same}
-use Rattle.checker.proofs.state.LookingBack.{look-same}
+use Rattle.checker.proofs.state.Sums.{Sums, parent-same, stands-same, look-same}
 use Rattle.checker.proofs.Cases.{test}
 
 -- the order of numbers but for its last parts, look back and room
@@ -228,7 +227,8 @@ module _ {e : Edition} {below : List (List ℕ)} {file : Text} {st : State} {pas
 
     -- a line as it is found
     line-outcome : (q : Read left ln (numberAt left))
-        → Outcome (q .piece) (q .rest) (lineStep names rows below file st) (orElse (scanFound (q .piece)) (lateRule e before (q .piece .body)))
+        → Outcome (q .piece) (q .rest) (lineStep names rows below file st)
+        (orElse (scanFound (q .piece)) (lateRule e before (q .piece .body)))
     unfolding orElse foundOf lineStep
     line-outcome q = rw (q .told) (go (numberAt left) refl)
       where
@@ -236,10 +236,12 @@ module _ {e : Edition} {below : List (List ℕ)} {file : Text} {st : State} {pas
         whole = recordStep names rows below (partOf left 0 (length ln)) st (placesOf ln)
 
         go : (n : ℕ) → numberAt left ≡ n
-            → Outcome (q .piece) (q .rest) (if eqb n 0 then whole else halt st n 0) (orElse (foundOf n) (lateRule e before (q .piece .body)))
+            → Outcome (q .piece) (q .rest) (if eqb n 0 then whole else halt st n 0)
+            (orElse (foundOf n) (lateRule e before (q .piece .body)))
         go zero z =
             let w = q .whole z in
-            subst (λ p. Outcome p (q .rest) whole (lateRule e before (p .body))) (sym (w .is-piece)) (whole-outcome (q .rest) (w .is-rest) (w .short))
+            subst (λ p. Outcome p (q .rest) whole (lateRule e before (p .body))) (sym (w .is-piece))
+            (whole-outcome (q .rest) (w .is-rest) (w .short))
         go (suc m) z = rw (ne-eqb (suc m) 0 (λ q. omega arith)) (gave (suc m) 0)
 
     pub turned : (room : ℕ) → st .at < length file → Turned room (turnOf names rows below file st)

@@ -20,7 +20,9 @@ walk-pf-spec =
     (λ c κs. search needs)
     (λ c κs. search needs)
     (λ c κs. record { edition = edition2025; all = all (c .before .before .before) })
-    (λ c. let w = c .before .before in ap length (w .walk .ensures .1 edition2025 (all (w .before .before .before .before))) ∙ within-length _ _)
+    (λ c.
+    let w = c .before .before in
+    ap length (w .walk .ensures .1 edition2025 (all (w .before .before .before .before))) ∙ within-length _ _)
     (λ c.
     let w = c .before .before in
     let a = all (w .before .before .before .before) in (w .walk .ensures .0 edition2025 a, w .walk .ensures .1 edition2025 a)))

@@ -30,12 +30,16 @@ held-in-spec =
     (λ c.
     let m = c .before in
     let l = m .before .before .before .loop in
-    (sym (l .inv .1 ∙ held-step _ _ _ _ (l .i) (omega arith) (m .before .above .ensures) (m .may-hold .ensures) ∙ rw (c .if1 .taken)), l .inv .0))
+    let on = held-step _ _ _ _ (l .i) (omega arith) (m .before .above .ensures) (m .may-hold .ensures) in
+    (sym (l .inv .1 ∙ on ∙ rw (c .if1 .taken)), l .inv .0))
     (λ c. omega arith)
     (λ c.
     let m = c .before in
-    let l = m .before .before .before .loop in
-    (omega arith, l .inv .1 ∙ held-step _ _ _ _ (l .i) (omega arith) (m .before .above .ensures) (m .may-hold .ensures) ∙ rw (c .if1 .left)))
+    let l = m .before .before .before .loop in (
+      omega arith,
+      l .inv .1
+          ∙ held-step _ _ _ _ (l .i) (omega arith) (m .before .above .ensures) (m .may-hold .ensures) ∙ rw (c .if1 .left),
+    ))
     (λ c.
     let l = c .before .loop in
     let none : l .i ≡ 0 = omega arith in
