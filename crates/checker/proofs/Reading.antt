@@ -7,22 +7,20 @@ use native.Mathlib.Omega.{arith}
 use lib.Dec.{eqb, leb, ltb}
 use lib.ListN.{length, drop, drop-of-length-le, take}
 use lib.Seq.{drop-drop, take-nil}
-use borrow.Author.Tests.{leb-true, leb-false, ltb-false, lt-ltb, le-ltb, eqb-true, eqb-false}
+use borrow.Author.Tests.{leb-true, leb-false, lt-ltb, le-ltb, eqb-true, eqb-false}
 use Rattle.dirf.specs.Bytes.{if_then_else_, Text}
 use Rattle.dirf.specs.Limits.{linesLimit, numbersAnEntry}
 use Rattle.dirf.specs.Edition.{Edition, kindIn}
 use Rattle.dirf.specs.Lines.{Piece, pieces, clean, fields, field}
 use Rattle.dirf.specs.FieldReader.{fieldOf}
-use Rattle.dirf.specs.Rules.{Found, keeps, breaks, given, orElse, ask, first, askedOf, over}
-use Rattle.dirf.specs.Tree.{Rec, declarant, opening, parentOf}
-use Rattle.dirf.specs.Order.{here, kindOfLine, lineNumber, closed, tooManyLines, order, line-opens}
+use Rattle.dirf.specs.Rules.{Found, keeps, breaks, given, orElse, ask, first}
+use Rattle.dirf.specs.Tree.{Rec, declarant, opening}
+use Rattle.dirf.specs.Order.{here, kindOfLine, order, line-opens}
 use Rattle.dirf.specs.Order as parts
 use Rattle.dirf.specs.Check.{entryOf as entryAfter, bytesOf, tableOf, Verdict, refused, accepted, noBytesLeft, recOf, breach, afterLine}
 use Rattle.dirf.specs.Check.{run, verdict, entryNumbers, numbersOf}
 use Rattle.dirf.specs.Theorems.Sound.{Sound}
 use Rattle.dirf.proofs.Bools.{if-cases}
-use Rattle.dirf.proofs.Lists.{listed}
-use Rattle.dirf.proofs.Asked.{rule-kept}
 use Rattle.dirf.proofs.RulesPut.{first-append}
 use Rattle.dirf.proofs.History.{table-length}
 use Rattle.dirf.proofs.OpenRecords.{open-records}
@@ -40,8 +38,8 @@ use Rattle.checker.specs.declared.state.State.{State}
 use Rattle.checker.specs.declared.turn.Stepped.{Stepped}
 use Rattle.checker.specs.declared.turn.Record.{Record}
 use Rattle.checker.proofs.state.Sums.{Sums, sums-start, parent-same, sums-next, held-few}
-use Rattle.checker.proofs.turn.Outcome.{early, lookRule, ln, kd, readAs, Took, Outcome, Turned, answer-is, there, looked-is, small}
-use Rattle.checker.proofs.turn.Outcome.{turned}
+use Rattle.checker.proofs.turn.Outcome.{early, lookRule, ln, kd, rec, readAs, Took, Outcome, Turned, answer-is, there, looked-is}
+use Rattle.checker.proofs.turn.Outcome.{small, turned}
 use Rattle.checker.proofs.Cases.{test}
 use Rattle.checker.proofs.Table.{held-length, put-next}
 
@@ -99,12 +97,6 @@ module _ (e : Edition) (room : ℕ) (before : List Rec) (p : Piece) where
       first-append (early ++ parts.lookBack) parts.room h
       ∙ ap₂ orElse (first-append early parts.lookBack h ∙ ap₂ orElse q look-is) room-is
 
-  -- a line that keeps the first rules is not too late
-  few-lines : first early (here e room before p) ≡ keeps → length before < linesLimit
-  unfolding here lineNumber tooManyLines over askedOf
-  few-lines kept =
-      ltb-false linesLimit (suc (length before)) (rule-kept 3 0 tooManyLines (here e room before p) (search listed depth 30) kept)
-
 module _ {e : Edition} {below : List (List ℕ)} {file : Text} {room : ℕ} {st : State} {past : Past} {before : List Rec}
     (h : Reading e below file room st past before) where
   pub near : Near st
@@ -143,35 +135,32 @@ module _ {e : Edition} {below : List (List ℕ)} {file : Text} {room : ℕ} {st 
   stopped s d w = record { stops = λ _. w; goes = λ g. absurd (true≢false (sym d ∙ g)) }
 
   -- the file ends here
+  end-is : length file ≤ st .at → {d : Bool} → st .done ≡ d → (if d then accepted before else refused before 1 0) ≡ verdict e file room
+  unfolding run noBytesLeft pieces
+  end-is l q =
+      ap (λ t. if t then accepted before else refused before 1 0) (sym q ∙ h .sums .done)
+      ∙ sym (ap (λ s. run e room before (pieces s)) (drop-of-length-le file l)) ∙ h .rest
+
   end-step : length file ≤ st .at → (d : Bool) → st .done ≡ d
       → Step (if d then haltAt (record { number = 0; line = st .count; field = 0; entries = st .count }) else halt st 1 0)
-  unfolding run noBytesLeft accepted refused answerOf pieces
-  end-step l d q =
-      go d
-      (ap (λ t. if t then accepted before else refused before 1 0) (sym q ∙ h .sums .done)
-      ∙ sym (ap (λ s. run e room before (pieces s)) (drop-of-length-le file l)) ∙ h .rest)
-    where
-      go : (t : Bool) → (if t then accepted before else refused before 1 0) ≡ verdict e file room
-          → Step (if t then haltAt (record { number = 0; line = st .count; field = 0; entries = st .count }) else halt st 1 0)
-      go true w =
-          let n = h .sums .count in
-          stopped _ refl
-          (ends _ (accepted before)
-          (ap₂ (λ x y. record { number = 0; line = x; field = 0; entries = y }) n (n ∙ sym (table-length before))) refl w)
-      go false w = stopped _ refl (ends _ (refused before 1 0) (answer-is (h .sums) 1 0) refl w)
+  unfolding accepted refused answerOf
+  end-step l true q =
+      let n = h .sums .count in
+      stopped _ refl
+      (ends _ (accepted before) (ap₂ (λ x y. record { number = 0; line = x; field = 0; entries = y }) n (n ∙ sym (table-length before))) refl
+      (end-is l q))
+  end-step l false q = stopped _ refl (ends _ (refused before 1 0) (answer-is (h .sums) 1 0) refl (end-is l q))
 
   module _ {names rows : List ℕ} (all : SayAll e names rows below file) where
     -- the declarant after one more line
-    say-next : (r : Rec) → r .line ≡ clean (drop (st .at) file) → r .kind ≡ kindOfLine e (r .line) → 3 ≤ length (r ∷ before)
-        → SayBelow e (declarant (r ∷ before)) below
+    say-next : 3 ≤ suc (length before) → SayBelow e (declarant (rec (h .sums) ∷ before)) below
     unfolding declarant opening thirdKind kindOfLine fieldOf behind
-    say-next r line kind l =
+    say-next l =
         if-cases (λ d. SayBelow e d below) (eqb (suc (length before)) 3)
         (λ t.
         let two : st .count + 0 ≡ 2 = omega (arith, h .sums .count, eqb-true (suc (length before)) 3 t) in
         subst (λ d. SayBelow e d below)
-        (sym (kind ∙ sym (all .say .kind (field 1 (fields (r .line))))
-        ∙ ap (λ s. kindIn (namesIn names) (field 1 (fields s))) (line ∙ ap clean (h .ahead 0 two))))
+        (ap (λ s. kindIn (namesIn names) (field 1 (fields (clean s)))) (sym (h .ahead 0 two)) ∙ all .say .kind (field 1 (fields (ln (h .sums)))))
         (all .say-below))
         (λ t. h .sums .say-below (omega (arith, eqb-false (suc (length before)) 3 t)))
 
@@ -191,61 +180,48 @@ module _ {e : Edition} {below : List (List ℕ)} {file : Text} {room : ℕ} {st 
       broken n f a b q = ends a (refused before n f) q refl (on b)
 
       module _ (kept : first early (here e room before p) ≡ keeps) (o : Took (h .sums) p (t .rest) s) where
-        abbrev r′ : Record
-        r′ = readAs (h .sums)
-
-        abbrev line : Text
-        line = ln (h .sums)
-
-        abbrev k : ℕ
-        k = kd (h .sums)
-
-        abbrev r : Rec
-        r = record { kind = k; line = line; parent = parentOf e before k }
-
-        breach-is : {f : Found} → lookedFound file st r′ (lastIn past k) ≡ f → breach e room before p ≡ orElse f (fullRule e room before p)
+        breach-is : {f : Found} → lookedFound file st (readAs (h .sums)) (lastIn past (kd (h .sums))) ≡ f
+            → breach e room before p ≡ orElse f (fullRule e room before p)
         unfolding orElse
         breach-is q =
             last-parts e room before p kept
-            ∙ ap (λ (q : Piece). orElse (lookRule e before (q .body)) (fullRule e room before q)) (o .is-piece)
+            ∙ ap (λ (q : Piece). orElse (lookRule e before (q .body)) (fullRule e room before q)) (o .whole .is-piece)
             ∙ ap (λ f. orElse f (fullRule e room before p))
             (sym (looked-is (h .sums) (small (h .sums) (all .say)) (o .stands) (o .few)) ∙ q)
 
-        safe : Fits st r′
-        safe =
-            record {
-              kind = small (h .sums) (all .say);
-              outer = held-few (h .sums) k (o .stands);
-              short = o .short;
-              safe = record { fewer = omega (arith, few-lines e room before p kept, h .sums .count); near = near };
-            }
-
-        more : breach e room before p ≡ keeps → Goes r′
+        more : breach e room before p ≡ keeps → Goes (readAs (h .sums))
         unfolding afterLine recOf bytesOf entryAfter entryOf behind stateAfter behindLine
         more b =
+            let line : Text = ln (h .sums) in
+            let r : Rec = rec (h .sums) in
             let sum : st .at + length line + 2 ≡ st .at + (length line + 2) = omega arith in
             let moved : drop (st .at + length line + 2) file ≡ drop (length line + 2) (drop (st .at) file) =
             ap (λ x. drop x file) sum ∙ sym (drop-drop (length line + 2) (st .at) file) in
             record {
               rec = r;
-              entry = ap₂ (λ x y. record { kind = k; start = x; length = length line; parent = y }) (h .sums .at)
-                  (parent-same (h .sums) k (o .stands));
+              entry = ap₂ (λ x y. record { kind = r .kind; start = x; length = length line; parent = y }) (h .sums .at)
+                  (parent-same (h .sums) (r .kind) (o .stands));
               reading = record {
-                sums = sums-next (h .sums) k (o .stands) line (there (h .sums)) (safe .kind) (say-next r refl refl);
-                rest = ap (λ s. run e room (r ∷ before) (pieces s)) moved ∙ ap (run e room (r ∷ before)) (sym (o .is-rest))
-                    ∙ ap (λ (q : Piece). run e room (recOf e before q ∷ before) (t .rest)) (sym (o .is-piece)) ∙ on b;
-                few = omega (arith, h .sums .count, few-lines e room before p kept);
-                close = omega (arith, h .close, o .short);
+                sums = sums-next (h .sums) (r .kind) (o .stands) line (there (h .sums)) (small (h .sums) (all .say)) say-next;
+                rest = ap (λ s. run e room (r ∷ before) (pieces s)) moved ∙ ap (run e room (r ∷ before)) (sym (o .whole .is-rest))
+                    ∙ ap (λ (q : Piece). run e room (recOf e before q ∷ before) (t .rest)) (sym (o .whole .is-piece)) ∙ on b;
+                few = omega (arith, h .sums .count, o .fewer);
+                close = omega (arith, h .close, o .whole .short);
                 ahead = λ m q.
                     ap (behind m) (moved ∙ sym (drop-drop 2 (length line) (drop (st .at) file))) ∙ h .ahead (suc m) (omega (arith, q));
               };
             }
 
-        went-on : On r′
+        went-on : On (readAs (h .sums))
         unfolding orElse given
         went-on =
             record {
-              fits = safe;
+              fits = record {
+                kind = small (h .sums) (all .say);
+                outer = held-few (h .sums) (kd (h .sums)) (o .stands);
+                short = o .whole .short;
+                safe = record { fewer = omega (arith, o .fewer, h .sums .count); near = near };
+              };
               refuses = λ n f q. broken n f _ (breach-is q) (answer-is (h .sums) n f);
               full = λ q l. broken 7 0 _
                   (breach-is q ∙ ap (given 7 0) (lt-ltb room (suc (length before)) (omega (arith, l, h .sums .count))))

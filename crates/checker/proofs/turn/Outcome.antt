@@ -6,15 +6,15 @@ use mathlib.Core.List.{List, _∷_, _++_}
 use native.Mathlib.Omega.{arith}
 use lib.Dec.{eqb, ltb, leb, leb·suc-suc}
 use lib.ListN.{length, getD, drop, length-drop}
-use borrow.Author.Tests.{lt-leb, eqb-true, ne-eqb, not-false}
+use borrow.Author.Tests.{lt-leb, ltb-false, eqb-true, ne-eqb, not-false}
 use Rattle.dirf.specs.Bytes.{if_then_else_, Text, endsWith}
-use Rattle.dirf.specs.Limits.{bar, lineLimit, linesLimit}
+use Rattle.dirf.specs.Limits.{bar, linesLimit}
 use Rattle.dirf.specs.Kinds.{isLater, standsOnce}
 use Rattle.dirf.specs.Edition.{Edition, kindIn, nameOf, rowsOf}
 use Rattle.dirf.specs.Lines.{Piece, pieces, fields, field, clean}
 use Rattle.dirf.specs.FieldReader.{fieldOf}
 use Rattle.dirf.specs.Rules.{Found, keeps, breaks, given, orElse, Rule, ask, first, askedOf, over}
-use Rattle.dirf.specs.Tree.{Rec, mayStand, parentOf, declarant}
+use Rattle.dirf.specs.Tree.{Rec, mayStand, parentOf}
 use Rattle.dirf.specs.Keys.{hasKey, lastUnder, isSome, notAfter}
 use Rattle.dirf.specs.Order.{Here, here, kindOfLine, closed, limits, lineEnds, kind, place, fieldCount, contents, line-opens}
 use Rattle.dirf.specs.Check.{refused}
@@ -38,7 +38,7 @@ use Rattle.checker.specs.declared.state.Past.{Past}
 use Rattle.checker.specs.declared.state.State.{State}
 use Rattle.checker.specs.declared.turn.Record.{Record}
 use Rattle.checker.specs.declared.turn.Stepped.{Stepped}
-use Rattle.checker.proofs.lines.FirstPiece.{scanFound, foundOf, Read, read, line-is}
+use Rattle.checker.proofs.lines.FirstPiece.{scanFound, foundOf, WholeLine, Read, read, line-is}
 use Rattle.checker.proofs.state.Sums.{Sums, parent-same, stands-same, look-same}
 use Rattle.checker.proofs.Cases.{test}
 
@@ -94,7 +94,7 @@ module _ {e : Edition} {below : List (List ℕ)} {file : Text} {st : State} {pas
   abbrev pub kd : ℕ
   kd = kindOfLine e ln
 
-  -- the record that the line is read as
+  -- the record that the line is read as, by the code and by document 01
   abbrev pub readAs : Record
   readAs =
       record {
@@ -107,12 +107,14 @@ module _ {e : Edition} {below : List (List ℕ)} {file : Text} {st : State} {pas
         len3 = getD (placesOf ln .lens) 2 0;
       }
 
+  abbrev pub rec : Rec
+  rec = record { kind = kd; line = ln; parent = parentOf e before kd }
+
   -- a line was read as a record
   pub record Took (p : Piece) (rest : List Piece) (s : Stepped) : Type 0 where
-    pub is-piece : p ≡ record { body = ln; ended = true }
-    pub is-rest : rest ≡ pieces (drop (length ln + 2) left)
+    pub whole : WholeLine left ln p rest
     pub is-went : s ≡ went readAs
-    pub short : length ln ≤ lineLimit
+    pub fewer : length before < linesLimit
     pub stands : mayStand e before kd ≡ true
     pub few : length (fields ln) ≤ mostFields
 
@@ -137,12 +139,12 @@ module _ {e : Edition} {below : List (List ℕ)} {file : Text} {st : State} {pas
 
   module _ (p : Piece) (rest : List Piece) where
     -- a rule that stops where its test holds, one that stops where it does not, and a part that stops where it finds something
-    try : (n f : ℕ) (t u : Bool) (s : Stepped) (g : Found) → t ≡ u → Outcome p rest s g
+    try : (n f : ℕ) (t u : Bool) (s : Stepped) (g : Found) → t ≡ u → (u ≡ false → Outcome p rest s g)
         → Outcome p rest (if t then halt st n f else s) (orElse (given n f u) g)
     unfolding given orElse
     try n f t u s g q o =
         subst (λ x. Outcome p rest (if x then halt st n f else s) (orElse (given n f u) g)) (sym q)
-        (test u (λ y. rw y (gave n f)) (λ y. rw y o))
+        (test u (λ y. rw y (gave n f)) (λ y. rw y (o y)))
 
     unless : (n f : ℕ) (t : Bool) (s : Stepped) (g : Found) → Outcome p rest s g
         → Outcome p rest (if t then s else halt st n f) (orElse (given n f (not t)) g)
@@ -213,24 +215,23 @@ module _ {e : Edition} {below : List (List ℕ)} {file : Text} {st : State} {pas
         (λ t. rw t))
 
     -- a whole line
-    whole-outcome : (rest : List Piece) → rest ≡ pieces (drop (length ln + 2) left) → length ln ≤ lineLimit
-        → Outcome (record { body = ln; ended = true }) rest
-        (recordStep names rows below (partOf left 0 (length ln)) st (placesOf ln)) (lateRule e before ln)
+    whole-outcome : (p : Piece) (rest : List Piece) → WholeLine left ln p rest → length before < linesLimit
+        → Outcome p rest (recordStep names rows below (partOf left 0 (length ln)) st (placesOf ln)) (lateRule e before ln)
     unfolding recordStep readStep recordOf
-    whole-outcome rest after short =
+    whole-outcome p rest whole fewer =
         rw (there-now, kind-is)
-        (unless _ rest 8 0 (endsWith bar ln) _ _
-        (found _ rest _ (placeRule e before ln) _ _ place-is (λ p.
-        subst (Outcome _ rest _) (or-keeps (fillRule e before ln))
-        (found _ rest _ (fillRule e before ln) _ keeps fill-is (λ f.
-        record { is-piece = refl; is-rest = after; is-went = refl; short = short; stands = may p; few = few-fields f })))))
+        (unless p rest 8 0 (endsWith bar ln) _ _
+        (found p rest _ (placeRule e before ln) _ _ place-is (λ q.
+        subst (Outcome p rest _) (or-keeps (fillRule e before ln))
+        (found p rest _ (fillRule e before ln) _ keeps fill-is (λ f.
+        record { whole = whole; is-went = refl; fewer = fewer; stands = may q; few = few-fields f })))))
 
     -- a line as it is found
-    line-outcome : (q : Read left ln (numberAt left))
+    line-outcome : (q : Read left ln (numberAt left)) → length before < linesLimit
         → Outcome (q .piece) (q .rest) (lineStep names rows below file st)
         (orElse (scanFound (q .piece)) (lateRule e before (q .piece .body)))
     unfolding orElse foundOf lineStep
-    line-outcome q = rw (q .told) (go (numberAt left) refl)
+    line-outcome q fewer = rw (q .told) (go (numberAt left) refl)
       where
         whole : Stepped
         whole = recordStep names rows below (partOf left 0 (length ln)) st (placesOf ln)
@@ -239,9 +240,8 @@ module _ {e : Edition} {below : List (List ℕ)} {file : Text} {st : State} {pas
             → Outcome (q .piece) (q .rest) (if eqb n 0 then whole else halt st n 0)
             (orElse (foundOf n) (lateRule e before (q .piece .body)))
         go zero z =
-            let w = q .whole z in
-            subst (λ p. Outcome p (q .rest) whole (lateRule e before (p .body))) (sym (w .is-piece))
-            (whole-outcome (q .rest) (w .is-rest) (w .short))
+            subst (λ p. Outcome (q .piece) (q .rest) whole (lateRule e before (p .body))) (sym (q .whole z .is-piece))
+            (whole-outcome (q .piece) (q .rest) (q .whole z) fewer)
         go (suc m) z = rw (ne-eqb (suc m) 0 (λ q. omega arith)) (gave (suc m) 0)
 
     pub turned : (room : ℕ) → st .at < length file → Turned room (turnOf names rows below file st)
@@ -254,7 +254,7 @@ module _ {e : Edition} {below : List (List ℕ)} {file : Text} {st : State} {pas
           first-of = q .first;
           outcome =
               rw (early-is e room before (q .piece), lt-leb (length file) (st .at) l)
-              (try (q .piece) (q .rest) 2 0 (st .done) (closed before) _ _ (h .done)
-              (try (q .piece) (q .rest) 3 0 (leb linesLimit (st .count)) (ltb linesLimit (suc (length before)))
-              (lineStep names rows below file st) _ many (line-outcome q)));
+              (try (q .piece) (q .rest) 2 0 (st .done) (closed before) _ _ (h .done) (λ _.
+              try (q .piece) (q .rest) 3 0 (leb linesLimit (st .count)) (ltb linesLimit (suc (length before)))
+              (lineStep names rows below file st) _ many (λ u. line-outcome q (ltb-false linesLimit (suc (length before)) u))));
         }
