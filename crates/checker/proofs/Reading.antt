@@ -147,8 +147,8 @@ module _ {e : Edition} {below : List (List ℕ)} {file : Text} {room : ℕ} {st 
   end-step l true q =
       let n = h .sums .count in
       stopped _ refl
-      (ends _ (accepted before) (ap₂ (λ x y. record { number = 0; line = x; field = 0; entries = y }) n (n ∙ sym (table-length before))) refl
-      (end-is l q))
+      (ends _ (accepted before) (ap₂ (λ x y. record { number = 0; line = x; field = 0; entries = y }) n (n ∙ sym (table-length before)))
+      refl (end-is l q))
   end-step l false q = stopped _ refl (ends _ (refused before 1 0) (answer-is (h .sums) 1 0) refl (end-is l q))
 
   module _ {names rows : List ℕ} (all : SayAll e names rows below file) where
@@ -160,7 +160,8 @@ module _ {e : Edition} {below : List (List ℕ)} {file : Text} {room : ℕ} {st 
         (λ t.
         let two : st .count + 0 ≡ 2 = omega (arith, h .sums .count, eqb-true (suc (length before)) 3 t) in
         subst (λ d. SayBelow e d below)
-        (ap (λ s. kindIn (namesIn names) (field 1 (fields (clean s)))) (sym (h .ahead 0 two)) ∙ all .say .kind (field 1 (fields (ln (h .sums)))))
+        (ap (λ s. kindIn (namesIn names) (field 1 (fields (clean s)))) (sym (h .ahead 0 two))
+        ∙ all .say .kind (field 1 (fields (ln (h .sums)))))
         (all .say-below))
         (λ t. h .sums .say-below (omega (arith, eqb-false (suc (length before)) 3 t)))
 

@@ -25,4 +25,5 @@ walk-pf-spec =
     ap length (w .walk .ensures .1 edition2025 (all (w .before .before .before .before))) ∙ within-length _ _)
     (λ c.
     let w = c .before .before in
-    let a = all (w .before .before .before .before) in (w .walk .ensures .0 edition2025 a, w .walk .ensures .1 edition2025 a)))
+    let a = all (w .before .before .before .before) in
+    record { answer = w .walk .ensures .0 edition2025 a; entries = w .walk .ensures .1 edition2025 a }))
