@@ -5,7 +5,7 @@ use Rattle.fields.specs.Places.{partOf, scanOf}
 use Rattle.dirf.specs.Bytes.{Text}
 use Rattle.dirf.specs.Lines.{clean}
 use Rattle.checker.specs.Lines.{thirdKind}
-use Rattle.checker.proofs.lines.FirstPiece.{line-is}
+use Rattle.checker.proofs.lines.NextLine.{line-is}
 use Rattle.checker.proofs.third_kind.Statement.{statement}
 use Rattle.checker.proofs.third_kind.Tie as tie
 

@@ -38,7 +38,7 @@ use Rattle.checker.specs.declared.state.Past.{Past}
 use Rattle.checker.specs.declared.state.State.{State}
 use Rattle.checker.specs.declared.turn.Record.{Record}
 use Rattle.checker.specs.declared.turn.Stepped.{Stepped}
-use Rattle.checker.proofs.lines.FirstPiece.{scanFound, foundOf, WholeLine, Read, read, line-is}
+use Rattle.checker.proofs.lines.NextLine.{scanFound, foundOf, WholeLine, Read, read, line-is}
 use Rattle.checker.proofs.state.Sums.{Sums, parent-same, stands-same, look-same}
 use Rattle.checker.proofs.Cases.{test}
 

@@ -1,7 +1,7 @@
 -- Test by test, as the definition asks them.
 use borrow.Author.Tests.{eq-eqb, le-leb, lt-leb, ne-eqb}
 use borrow.Author.Needs.{needs}
-use Rattle.checker.proofs.lines.Bytewise.{ended, by-second}
+use Rattle.checker.proofs.lines.NextLine.{ended, by-second}
 use Rattle.checker.proofs.lines.end_of.Statement.{statement}
 use Rattle.checker.proofs.lines.end_of.Tie as tie
 

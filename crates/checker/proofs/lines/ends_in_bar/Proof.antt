@@ -1,6 +1,6 @@
 -- An empty text has no last byte; else it is the one before the end.
 use borrow.Author.Needs.{needs}
-use Rattle.checker.proofs.lines.Bytewise.{last-none, last-at}
+use Rattle.checker.proofs.lines.NextLine.{last-none, last-at}
 use Rattle.checker.proofs.lines.ends_in_bar.Statement.{statement}
 use Rattle.checker.proofs.lines.ends_in_bar.Tie as tie
 

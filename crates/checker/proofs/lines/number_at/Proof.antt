@@ -1,6 +1,6 @@
 -- Too long, or by what ends it.
 use borrow.Author.Needs.{needs}
-use Rattle.checker.proofs.lines.Bytewise.{too-long, by-its-end}
+use Rattle.checker.proofs.lines.NextLine.{too-long, by-its-end}
 use Rattle.checker.proofs.lines.number_at.Statement.{statement}
 use Rattle.checker.proofs.lines.number_at.Tie as tie
 

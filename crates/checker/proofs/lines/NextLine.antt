@@ -1,25 +1,68 @@
--- The line that is found at the front of what is left: the first piece, and what 4, 5 and 6 say of it.
-use Prim.Native.Nat.{ℕ, zero, suc, _+_, _≤_, _<_}
-use mathlib.Core.Path.{_≡_, refl, sym, ap, _∙_, subst}
-use mathlib.Core.Bool.{Bool, true, false, _&&_, not, true≢false}
+-- The line that comes next: what the code's tests read of it, byte by byte, and what is found there.
+use Prim.Native.Nat.{ℕ, suc, _-_, _≤_, _<_, zero, _+_}
+use mathlib.Core.Path.{_≡_, refl, ap, _∙_, sym, subst}
+use mathlib.Core.Bool.{false, Bool, true, _&&_, not, true≢false}
+use mathlib.Core.List.{[], _∷_, List, _++_, append-nil, cons≢nil}
 use mathlib.Core.Logic.{_≢_, _⊎_, ⊎-elim}
-use mathlib.Core.List.{List, [], _∷_, _++_, append-nil, cons≢nil}
 use native.Mathlib.Omega.{arith}
-use lib.Dec.{eqb, ltb}
-use lib.ListN.{length, take, drop}
-use lib.Seq.{take-append-seam, drop-append-add}
-use borrow.Author.Tests.{eqb-true, ltb-false}
-use Rattle.dirf.specs.Bytes.{if_then_else_, Text, isEmpty}
-use Rattle.dirf.specs.Limits.{CR, LF, lineLimit}
-use Rattle.dirf.specs.Lines.{Piece, push, pieces, clean, unclean}
+use lib.Dec.{eqb, leb, ltb}
+use lib.ListN.{length, getD, drop, take}
+use lib.Seq.{drop-append-seam, take-append-seam, drop-append-add}
+use borrow.Author.Tests.{lt-leb, lt-ltb, le-ltb, ne-eqb, eqb-true, ltb-false}
+use Rattle.dirf.specs.Bytes.{if_then_else_, Text, endsWith, isEmpty}
+use Rattle.dirf.specs.Limits.{lineLimit, CR, LF}
+use Rattle.dirf.specs.Lines.{clean, unclean, Piece, push, pieces}
 use Rattle.dirf.specs.Rules.{Found, keeps, breaks, given, orElse}
 use Rattle.dirf.specs.Order.{nothingOrCR}
 use Rattle.dirf.specs.Theorems.Plain.{NoLineEnd}
+use Rattle.dirf.proofs.CleanLaws.{clean-unclean, lineEnd-says, clean-none, clean-front, unclean-front, unclean-begins}
 use Rattle.dirf.proofs.Bools.{and-left, and-right}
-use Rattle.dirf.proofs.CleanLaws.{lineEnd-says, clean-none, clean-unclean, clean-front, unclean-front, unclean-begins}
 use Rattle.dirf.proofs.WholeLaws.{pieces-front, rest-piece}
 use Rattle.checker.specs.Lines.{endOf, numberAt}
 use Rattle.checker.proofs.Cases.{test}
+
+-- what stands behind the bytes of a line
+drop-clean : (s : Text) → drop (length (clean s)) s ≡ unclean s
+drop-clean s = ap (drop (length (clean s))) (clean-unclean s) ∙ drop-append-seam (clean s) (unclean s)
+
+-- the last byte
+pub last-none : (b : ℕ) (s : Text) → length s ≤ 0 → false ≡ endsWith b s
+unfolding endsWith
+last-none b [] h = refl
+last-none b (c ∷ s) h = absurd (omega arith)
+
+pub last-at : (b : ℕ) (s : Text) → 0 < length s → eqb (getD s (length s - 1) 0) b ≡ endsWith b s
+unfolding endsWith
+last-at b [] h = absurd (omega arith)
+last-at b (c ∷ []) h = refl
+last-at b (c ∷ d ∷ s) h =
+    let e : suc (suc (length s)) - 1 ≡ suc (suc (length s) - 1) = omega arith in
+    ap (λ i. eqb (getD (c ∷ d ∷ s) i 0) b) e ∙ last-at b (d ∷ s) (omega arith)
+
+-- what ends a line, test by test
+pub ended : (u : Text)
+    → endOf u
+    ≡ (if leb (length u) 0 then 5 else if eqb (getD u 0 0) 10 then 6
+    else if leb (length u) 1 then 5 else if eqb (getD u 1 0) 10 then 0 else 6)
+unfolding endOf
+ended [] = refl
+ended (b ∷ []) = refl
+ended (b ∷ c ∷ u) = rw (lt-leb (suc (suc (length u))) 0 (omega arith), lt-leb (suc (suc (length u))) 1 (omega arith))
+
+pub by-second : (u : Text) → 1 < length u → (getD u 0 0 ≡ 10 → ⊥) → endOf u ≡ (if eqb (getD u 1 0) 10 then 0 else 6)
+by-second u l h = rw (ended u, lt-leb (length u) 0 (omega arith), ne-eqb (getD u 0 0) 10 h, lt-leb (length u) 1 l)
+
+-- 4 past the limit, else what stands behind the bytes gives the number
+module _ (s : Text) {n : ℕ} (e : n ≡ length (clean s)) where
+  pub too-long : lineLimit < n → 4 ≡ numberAt s
+  unfolding numberAt
+  too-long h = rw (lt-ltb lineLimit (length (clean s)) (omega arith))
+
+  pub by-its-end : {u : Text} {m : ℕ} → n ≤ lineLimit → u ≡ drop n s → m ≡ endOf u → m ≡ numberAt s
+  unfolding numberAt
+  by-its-end h b f = rw (le-ltb lineLimit (length (clean s)) (omega arith)) (f ∙ ap endOf (b ∙ ap (λ x. drop x s) e ∙ drop-clean s))
+
+-- The line that is found at the front of what is left: the first piece, and what 4, 5 and 6 say of it.
 
 -- 4, 5 and 6 of a piece
 unfoldable pub scanFound : Piece → Found
