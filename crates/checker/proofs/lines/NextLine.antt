@@ -8,7 +8,7 @@ use native.Mathlib.Omega.{arith}
 use lib.Dec.{eqb, leb, ltb}
 use lib.ListN.{length, getD, drop, take}
 use lib.Seq.{drop-append-seam, take-append-seam, drop-append-add}
-use borrow.Author.Tests.{lt-leb, lt-ltb, le-ltb, ne-eqb, eqb-true, ltb-false}
+use borrow.Author.Tests.{lt-leb, ne-eqb, eqb-true, ltb-false}
 use Rattle.dirf.specs.Bytes.{if_then_else_, Text, endsWith, isEmpty}
 use Rattle.dirf.specs.Limits.{lineLimit, CR, LF}
 use Rattle.dirf.specs.Lines.{clean, unclean, Piece, push, pieces}
@@ -22,7 +22,7 @@ use Rattle.checker.specs.Lines.{endOf, numberAt}
 use Rattle.checker.proofs.Cases.{test}
 
 -- what stands behind the bytes of a line
-drop-clean : (s : Text) → drop (length (clean s)) s ≡ unclean s
+pub drop-clean : (s : Text) → drop (length (clean s)) s ≡ unclean s
 drop-clean s = ap (drop (length (clean s))) (clean-unclean s) ∙ drop-append-seam (clean s) (unclean s)
 
 -- the last byte
@@ -51,16 +51,6 @@ ended (b ∷ c ∷ u) = rw (lt-leb (suc (suc (length u))) 0 (omega arith), lt-le
 
 pub by-second : (u : Text) → 1 < length u → (getD u 0 0 ≡ 10 → ⊥) → endOf u ≡ (if eqb (getD u 1 0) 10 then 0 else 6)
 by-second u l h = rw (ended u, lt-leb (length u) 0 (omega arith), ne-eqb (getD u 0 0) 10 h, lt-leb (length u) 1 l)
-
--- 4 past the limit, else what stands behind the bytes gives the number
-module _ (s : Text) {n : ℕ} (e : n ≡ length (clean s)) where
-  pub too-long : lineLimit < n → 4 ≡ numberAt s
-  unfolding numberAt
-  too-long h = rw (lt-ltb lineLimit (length (clean s)) (omega arith))
-
-  pub by-its-end : {u : Text} {m : ℕ} → n ≤ lineLimit → u ≡ drop n s → m ≡ endOf u → m ≡ numberAt s
-  unfolding numberAt
-  by-its-end h b f = rw (le-ltb lineLimit (length (clean s)) (omega arith)) (f ∙ ap endOf (b ∙ ap (λ x. drop x s) e ∙ drop-clean s))
 
 -- The line that is found at the front of what is left: the first piece, and what 4, 5 and 6 say of it.
 
