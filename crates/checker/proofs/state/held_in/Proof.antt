@@ -1,10 +1,9 @@
 -- The answer is the answer for the open records down to the i-th.
-use Prim.Native.Nat.{_≤_}
-use mathlib.Core.Path.{_≡_, refl, sym, _∙_}
+use Prim.Native.Nat.{suc, _-_, _≤_}
+use mathlib.Core.Path.{_≡_, refl, sym, ap, _∙_}
 use native.Mathlib.Omega.{arith}
 use borrow.Author.Needs.{needs}
 use Rattle.checker.specs.State.{deepest, heldIn}
-use Rattle.checker.proofs.state.Tests.{held-step}
 use Rattle.checker.proofs.state.held_in.Statement.{statement}
 use Rattle.checker.proofs.state.held_in.Tie as tie
 
@@ -30,16 +29,16 @@ held-in-spec =
     (λ c.
     let m = c .before in
     let l = m .before .before .before .loop in
-    let on = held-step _ _ _ _ (l .i) (omega arith) (m .before .above .ensures) (m .may-hold .ensures) in
-    (sym (l .inv .1 ∙ on ∙ rw (c .if1 .taken)), l .inv .0))
+    let one : l .i ≡ suc (l .i - 1) = omega arith in (
+      sym (l .inv .1 ∙ ap (heldIn _ _ _ _) one ∙ simp (← m .before .above .ensures, ← m .may-hold .ensures, c .if1 .taken) (sym one)),
+      l .inv .0,
+    ))
     (λ c. omega arith)
     (λ c.
     let m = c .before in
-    let l = m .before .before .before .loop in (
-      omega arith,
-      l .inv .1
-          ∙ held-step _ _ _ _ (l .i) (omega arith) (m .before .above .ensures) (m .may-hold .ensures) ∙ rw (c .if1 .left),
-    ))
+    let l = m .before .before .before .loop in
+    let one : l .i ≡ suc (l .i - 1) = omega arith in
+    (omega arith, l .inv .1 ∙ ap (heldIn _ _ _ _) one ∙ simp (← m .before .above .ensures, ← m .may-hold .ensures, c .if1 .left)))
     (λ c.
     let l = c .before .loop in
     let none : l .i ≡ 0 = omega arith in
