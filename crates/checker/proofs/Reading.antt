@@ -264,9 +264,6 @@ held-start {first} sound q p =
 
 module _ {e : Edition} {below : List (List ℕ)} {file : Text} {room : ℕ} {first t : List ℕ} {st : State} {past : Past}
     (h : Held e below file room first t st past) where
-  pub held-near : Near st
-  held-near = near (h .reading)
-
   pub same-length : length t ≡ length first
   same-length = ap length (h .table) ∙ held-length first (tableOf (h .before))
 

@@ -4,7 +4,7 @@ use mathlib.Core.Path.{_≡_, refl, sym, ap, ap₂, _∙_}
 use mathlib.Core.List.{List, [], _∷_, _++_}
 use native.Mathlib.Omega.{arith}
 use lib.ListN.{length, take, drop, length-append, length-take}
-use lib.Seq.{sets-eq, take-at, drop-at, drop-drop, take-all, take-append-le, length-front, length-take-le}
+use lib.Seq.{sets-eq, take-append-seam, drop-append-add, drop-drop, take-all, take-append-le, length-front, length-take-le}
 use borrow.Author.Tests.{lt-ltb, le-ltb}
 use Rattle.dirf.specs.Limits.{numbersAnEntry}
 use Rattle.dirf.specs.Check.{Entry, entryNumbers, numbersOf, Verdict}
@@ -22,7 +22,7 @@ numbers-last [] x = refl
 numbers-last (y ∷ es) x = ap (λ l. entryNumbers y ++ l) (numbers-last es x)
 
 module _ (t : List ℕ) (es : List Entry) (fits : numbersAnEntry * length es ≤ length t) where
-  with-length : length (withEntries es t) ≡ length t
+  pub with-length : length (withEntries es t) ≡ length t
   unfolding withEntries
   with-length =
       let i : ℕ = length (numbersOf es) in
@@ -39,9 +39,8 @@ module _ (t : List ℕ) (es : List Entry) (fits : numbersAnEntry * length es ≤
       let long : length (numbersOf es ++ entryNumbers x) ≡ i + numbersAnEntry = length-append (numbersOf es) (entryNumbers x) in
       rw (with-length, lt-ltb (length es) (length t / numbersAnEntry) room, ← n)
       (sets-eq (entryNumbers x) (numbersOf es ++ drop i t) i (omega (arith, with-length))
-      ∙ ap₂ (λ a b. a ++ entryNumbers x ++ b) (take-at (numbersOf es) (drop i t) i refl)
-      (sym (drop-drop numbersAnEntry i (numbersOf es ++ drop i t)) ∙ ap (drop numbersAnEntry) (drop-at (numbersOf es) (drop i t) i refl)
-      ∙ drop-drop numbersAnEntry i t)
+      ∙ ap₂ (λ a b. a ++ entryNumbers x ++ b) (take-append-seam (numbersOf es) (drop i t))
+      (drop-append-add (numbersOf es) (drop i t) numbersAnEntry ∙ drop-drop numbersAnEntry i t)
       ∙ rw (last, long))
 
   put-none : (c : ℕ) (row : List ℕ) → length t / numbersAnEntry ≤ c → putEntry (withEntries es t) c row ≡ withEntries es t

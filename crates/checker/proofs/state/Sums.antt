@@ -1,5 +1,5 @@
 -- What the state sums up of the records read so far.
-use Prim.Native.Nat.{ℕ, suc, _≤_, _<_, _+_}
+use Prim.Native.Nat.{ℕ, suc, _≤_, _<_}
 use mathlib.Core.Path.{_≡_, refl, sym, ap, ap₂, _∙_, subst}
 use mathlib.Core.Bool.{true, _&&_, _||_, Bool, false, not, and-true}
 use mathlib.Core.List.{List, [], _∷_}

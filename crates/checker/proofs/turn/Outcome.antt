@@ -1,5 +1,5 @@
 -- A turn over the state gives what document 01's rules give over the records, up to 21, 20 and 7: part by part, in their order.
-use Prim.Native.Nat.{ℕ, zero, suc, _+_, _≤_, _<_}
+use Prim.Native.Nat.{ℕ, zero, suc, _≤_, _<_}
 use mathlib.Core.Path.{_≡_, refl, sym, ap, ap₂, _∙_, subst}
 use mathlib.Core.Bool.{Bool, true, false, not, _&&_}
 use mathlib.Core.List.{List, _∷_, _++_}
@@ -69,11 +69,10 @@ module _ (e : Edition) (before : List Rec) (line : Text) where
   abbrev lateRule : Found
   lateRule = orElse (given 8 0 (not (endsWith bar line))) (orElse placeRule fillRule)
 
-abbrev limitsRule : List Rec → Found → Found
-limitsRule before later = orElse (given 2 0 (closed before)) (orElse (given 3 0 (ltb linesLimit (suc (length before)))) later)
-
 early-is : (e : Edition) (room : ℕ) (before : List Rec) (p : Piece)
-    → first early (here e room before p) ≡ limitsRule before (orElse (scanFound p) (lateRule e before (p .body)))
+    → first early (here e room before p)
+    ≡ orElse (given 2 0 (closed before))
+    (orElse (given 3 0 (ltb linesLimit (suc (length before)))) (orElse (scanFound p) (lateRule e before (p .body))))
 unfolding first ask askedOf over line-opens scanFound contentsFound
 early-is e room before p = simp (← or-assoc, or-keeps)
 
@@ -165,10 +164,6 @@ module _ {e : Edition} {below : List (List ℕ)} {file : Text} {st : State} {pas
   unfolding partOf
   there = line-is left
 
-  there-now : partOf left 0 (length ln) ≡ ln
-  unfolding partOf
-  there-now = line-is left
-
   place-is : placeFound st kd (heldAt below st kd) ≡ placeRule e before ln
   unfolding placeFound
   place-is = ap (λ t. orElse (given 9 1 (eqb kd 0)) (orElse (given 10 1 (isLater kd)) (given 12 1 (not t)))) (stands-same h kd)
@@ -217,9 +212,9 @@ module _ {e : Edition} {below : List (List ℕ)} {file : Text} {st : State} {pas
     -- a whole line
     whole-outcome : (p : Piece) (rest : List Piece) → WholeLine left ln p rest → length before < linesLimit
         → Outcome p rest (recordStep names rows below (partOf left 0 (length ln)) st (placesOf ln)) (lateRule e before ln)
-    unfolding recordStep readStep recordOf
+    unfolding partOf recordStep readStep recordOf
     whole-outcome p rest whole fewer =
-        rw (there-now, kind-is)
+        rw (line-is left, kind-is)
         (unless p rest 8 0 (endsWith bar ln) _ _
         (found p rest _ (placeRule e before ln) _ _ place-is (λ q.
         subst (Outcome p rest _) (or-keeps (fillRule e before ln))

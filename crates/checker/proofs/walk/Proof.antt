@@ -14,7 +14,7 @@ use Rattle.checker.specs.Turn.{Fits, lookedFound, entryOf}
 use Rattle.checker.specs.Answers.{SayAll}
 use Rattle.checker.specs.declared.state.State.{State}
 use Rattle.checker.proofs.turn.Stops.{looked-numbered, keeps-all}
-use Rattle.checker.proofs.Reading.{On, Held, held-start, held-near, same-length, answered, turn-step, held-next}
+use Rattle.checker.proofs.Reading.{On, Held, held-start, near, same-length, answered, turn-step, held-next}
 use Rattle.checker.proofs.walk.Statement.{statement}
 use Rattle.checker.proofs.walk.Tie as tie
 
@@ -26,8 +26,8 @@ abbrev μ-loop : tie.MeasureT-loop
 μ-loop names rows below file room table₀ st₀ past₀ table st past = suc linesLimit - st .count
 
 -- the loop's head: of the edition that there is
-near : (c : tie.At-loop Inv-loop μ-loop) → Near (c .loop .st)
-near c = let t = c .before .before .before .before .before .pre in held-near (c .loop .inv (t .edition) (t .all))
+close : (c : tie.At-loop Inv-loop μ-loop) → Near (c .loop .st)
+close c = let t = c .before .before .before .before .before .pre in near (c .loop .inv (t .edition) (t .all) .reading)
 
 long : (c : tie.At-loop Inv-loop μ-loop) → length (c .loop .table) ≡ length (c .before .before .before .before .before .args .table .now)
 long c = let t = c .before .before .before .before .before .pre in same-length (c .loop .inv (t .edition) (t .all))
@@ -106,7 +106,7 @@ walk-spec =
     (λ c κs. search needs)
     (λ c κs. search needs)
     (λ c e all. held-start (all .sound) (c .before .start .ensures) (c .nothing .ensures))
-    (λ c κs. near c)
+    (λ c κs. close c)
     (λ c. long (c .before .before .before))
     returns
     (λ c. search needs)
@@ -117,17 +117,17 @@ walk-spec =
     (λ c. omega (arith, fits (c .before .before .before .before) .kind))
     (λ c. omega (arith, fits (c .before .before .before .before) .kind))
     (λ c κs. fits (c .before .before .before .before .before) .outer)
-    (λ c κs. near (looked (c .before .before) .before .before) .few)
+    (λ c κs. close (looked (c .before .before) .before .before) .few)
     (λ c. long (looked (c .before .before .before) .before .before))
     returns-2
     (λ c. search needs)
-    (λ c κs. near (asked (c .before) .before .before) .few)
+    (λ c κs. close (asked (c .before) .before .before) .few)
     (λ c. long (asked (c .before .before) .before .before))
     returns-3
     (λ c κs. fits (asked (c .before)))
     (λ c κs. search needs)
     (λ c. search needs)
-    (λ c κs. (near (entered (c .before .before) .before .before) .few, rw (c .before .before .entry-numbers .ensures)))
+    (λ c κs. (close (entered (c .before .before) .before .before) .few, rw (c .before .before .entry-numbers .ensures)))
     (λ c. omega (arith, fits (written c) .kind))
     (λ c. omega (arith, fits (written c) .kind))
     (λ c. omega (arith, fits (written c) .kind))

@@ -1,6 +1,4 @@
 -- Too long, or by what ends it.
-use native.Mathlib.Omega.{arith}
-use lib.ListN.{length}
 use borrow.Author.Needs.{needs}
 use borrow.Author.Tests.{lt-ltb, le-ltb}
 use Rattle.dirf.specs.Limits.{lineLimit}

@@ -14,7 +14,9 @@ key-bad-spec =
     (tie.spec
     (λ c κs. search needs)
     (λ c. simp (← c .before .key-count .ensures, c .if1 .taken))
-    (λ c. let n = c .before .before .before .key-count in simp (← n .ensures, lt-ltb 0 (n .result) (omega arith), ne-eqb _ _ (c .if2 .taken)))
+    (λ c.
+    let n = c .before .before .before .key-count in
+    simp (← n .ensures, lt-ltb 0 (n .result) (omega arith), ne-eqb _ _ (c .if2 .taken)))
     (λ c. search needs)
     (λ c. search needs)
     (λ c κs. search needs)
