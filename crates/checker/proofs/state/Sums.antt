@@ -7,7 +7,7 @@ use mathlib.Core.Option.{Option, none, some}
 use mathlib.Core.Logic.{_≢_}
 use native.Mathlib.Omega.{arith}
 use native.Mathlib.Numerals.{add-one}
-use lib.Dec.{eqb, ltb}
+use lib.Dec.{eqb, ltb, eqb·suc-suc}
 use lib.ListN.{length, getD, getD-replicate, set, length-set}
 use lib.Seq.{getD-set-same, getD-set-other}
 use borrow.Author.Tests.{lt-ltb, le-ltb, ne-eqb, eqb-true, eqb-false}
@@ -128,122 +128,17 @@ module _ (e : Edition) (d : ℕ) (below : List (List ℕ)) (say : SayBelow e d b
       (λ t. rw t (record { deep = refl; stack = s; inside = i }))
       (λ t. rw t outwards))
 
-module _ {e : Edition} {below : List (List ℕ)} {text : Text} {st : State} {past : Past} {before : List Rec}
-    (h : Sums e below text st past before) (k : ℕ) where
-  abbrev up : List Open
-  up = place e before k .up
-
-  located : 3 ≤ length before → Located (st .path) (place e before k) (heldAt below st k)
-  unfolding place heldAt opening
-  located later =
-      let p = st .path in
-      let q = place e before k in
-      rw (le-ltb (st .count) 3 (omega (arith, h .count)))
-      (subst (λ d. Located p q (heldIn below d (p .kinds) k (p .depth))) (sym (h .declares))
-      (subst (λ n. Located p q (heldIn below (declarant before) (p .kinds) k n)) (sym (h .path .depth))
-      (locate e (declarant before) below (h .say-below later) p k none (opened before) (h .path .stack) (sym (h .path .depth)))))
-
-  -- a record that may stand has as many open records outside it as the code finds: before line 4 none, since those stand deeper
-  pub held-same : mayStand e before k ≡ true → (heldAt below st k ≡ length up) × Stack (st .path .lines) (st .path .kinds) up
-  unfolding heldAt opening
-  held-same stands =
-      less (length before) 3
-      (λ few.
-      let flat : 0 < level k → ⊥ = λ deep. omega (arith, has-parent e before k deep stands .0) in
-      let none = open-depth (placed e (h .sound) (h .history) k .known) in
-      rw (lt-ltb (st .count) 3 (omega (arith, h .count))) (omega arith, no-stack up (omega arith)))
-      (λ later. let l = located later in (l .deep, l .stack))
-    where
-      no-stack : (os : List Open) → length os ≤ 0 → Stack (st .path .lines) (st .path .kinds) os
-      no-stack [] l = tt
-      no-stack (o ∷ os) l = absurd (omega arith)
-
-  pub parent-same : mayStand e before k ≡ true → above (st .path .lines) (heldAt below st k) ≡ parentOf e before k
-  unfolding parentOf
-  parent-same stands = rw (held-same stands .0) (first-above _ _ up (held-same stands .1) .0)
-
-  order-same : 3 ≤ length before → orderAt (st .path) k (heldAt below st k) ≡ inOrder (place e before k .last) k
-  unfolding orderAt inOrder
-  order-same later = rw (located later .deep) (go (place e before k .last) (located later .inside))
-    where
-      go : (c : Option Open) → Inside (st .path) c (length up) → orderAt (st .path) k (length up) ≡ inOrder c k
-      go none i = rw (le-ltb (length up) (st .path .depth) (omega arith))
-      go (some o) i = rw (lt-ltb (length up) (st .path .depth) (i .0), i .1 .kind)
-
-  -- 12 asks the same of the state as of the records
-  pub stands-same : standsOn st k (heldAt below st k) ≡ mayStand e before k
-  unfolding standsOn mayStand belowOn isPlaced opening
-  stands-same =
-      ap (λ n. if ltb n 3 then isIn k (getD opening n []) else belowOn (st .path) k (heldAt below st k)) (h .count)
-      ∙ less (length before) 3
-      (λ few. rw (lt-ltb (length before) 3 few))
-      (λ later.
-      rw (le-ltb (length before) 3 later)
-      (ap₂ (λ n o. eqb k FIMDirf || ltb 0 n && o) (located later .deep) (order-same later)))
-
--- The rules that look back ask the same of the state as of the records: 21 and 20.
-
 -- an open record has a line
 line-of : {before : List Rec} {n l : ℕ} {up : List Open} → OpenRecords before n l up → 0 < length up → 0 < numberOfFirst up
 unfolding numberOfFirst
 line-of (none-open z) h = absurd (omega arith)
 line-of (innermost a b known rest) h = omega (arith, first-number rest)
 
-module _ {e : Edition} {below : List (List ℕ)} {text : Text} {st : State} {past : Past} {before : List Rec}
-    (h : Sums e below text st past before) (k : ℕ) (small : k < kinds) (stands : mayStand e before k ≡ true) where
-  abbrev p : ℕ
-  p = parentOf e before k
-
-  line-above : 0 < level k → 0 < p
-  unfolding parentOf
-  line-above deep = line-of (placed e (h .sound) (h .history) k .known) (has-parent e before k deep stands .1)
-
-  -- a kind stood under its parent before exactly where the state remembers that parent: what is asked of its line then
-  asked-same : (f : Text → Bool) (g : Option Rec → Bool) → g none ≡ false → ((r : Rec) → f (r .line) ≡ g (some r)) → 0 < level k
-      → (stoodOn (lastIn past k) p && f (lastLine text (lastIn past k))) ≡ g (lastUnder before p k)
-  unfolding stoodOn lastIn parentIn ifUnder
-  asked-same f g of-none of-some deep =
-      ap (λ u. eqb u p && f (lastLine text (lastIn past k))) (h .past .under k small) ∙ go (lastOf before k) refl
-      ∙ ap g (sym (last-by-kind e (h .sound) (h .history) k stands deep))
-    where
-      go : (l : Option Rec) → lastOf before k ≡ l → (eqb (parentIn l) p && f (lastLine text (lastIn past k))) ≡ g (ifUnder p l)
-      go none q = rw (ne-eqb 0 p (λ z. omega (arith, line-above deep))) (sym of-none)
-      go (some r) q =
-          test (eqb (r .parent) p) (λ t. rw t (ap f (h .past .line k small r q) ∙ of-some r)) (λ t. rw t (sym of-none))
-
-  -- 21
-  repeated-same : repeatedOn (lastIn past k) k p ≡ (standsOnce k && isSome (lastUnder before p k))
-  unfolding repeatedOn standsOnce isSome
-  repeated-same =
-      test (standsOnce k)
-      (λ t.
-      rw t
-      (sym (and-true _)
-      ∙ asked-same (λ _. true) isSome refl (λ r. refl) (omega (arith, value-level (isIn-says k values .0 t)))))
-      (λ t. rw t)
-
-  -- 20
-  key-same : (second third : Text) (cells : List Text) → second ≡ field 2 cells → third ≡ field 3 cells
-      → keyOn text (lastIn past k) k p second third ≡ (hasKey k && notAfter k cells (lastUnder before p k))
-  unfolding keyOn notAfter
-  key-same second third cells x y =
-      test (hasKey k)
-      (λ t.
-      rw t
-      (asked-same (λ line. not (keyLess (keyOf k (fields line)) (keyParts k second third))) (notAfter k cells) refl
-      (λ r. ap (λ m. not (keyLess (keyOf k (fields (r .line))) m)) (ap₂ (keyParts k) x y ∙ sym (key-of-cells k cells))) (key-below k t)))
-      (λ t. rw t)
-
-  -- 21 and 20
-  pub look-same : (second third : Text) (cells : List Text) → second ≡ field 2 cells → third ≡ field 3 cells
-      → lookFound text (lastIn past k) k p second third
-      ≡ orElse (given 21 1 (standsOnce k && isSome (lastUnder before p k)))
-      (given 20 2 (hasKey k && notAfter k cells (lastUnder before p k)))
-  unfolding lookFound
-  look-same second third cells x y =
-      ap₂ (λ s t. orElse (given 21 1 s) (given 20 2 t)) repeated-same (key-same second third cells x y)
-
--- The state after a record that was taken sums up the records with that one.
+-- no kind stands lower than a value record
+level-most : (k : ℕ) → level k ≤ deepest
+unfolding isValue
+level-most k =
+    test (isValue k) (λ t. omega (arith, value-level (isIn-says k values .0 t))) (λ t. omega (arith, opens-level k t))
 
 -- open records further out than d stay where they are
 stack-on : (lines kinds : List ℕ) (d n k : ℕ) (os : List Open) → length os ≤ d → Stack lines kinds os
@@ -294,70 +189,140 @@ past-next text p before m r at len small there =
         length-set (p .lens) (r .kind) len ∙ m .sizes .2,
       );
       under = λ k s.
-          test (eqb (r .kind) k)
-          (λ t. rw (t, ← eqb-true (r .kind) k t) (getD-set-same (p .under) (r .kind) (r .parent) 0 (omega (arith, m .sizes .0))))
-          (λ t. rw (t, getD-set-other (p .under) (r .kind) k (r .parent) 0 (λ q. eqb-false (r .kind) k t (sym q))) (m .under k s));
+          rw (set-at (p .under) (r .parent) k (m .sizes .0)) (test (eqb (r .kind) k) (λ t. rw t) (λ t. rw t (m .under k s)));
       line = λ k s x.
-          test (eqb (r .kind) k)
-          (λ t.
-          rw (
-            t,
-            ← eqb-true (r .kind) k t,
-            getD-set-same (p .starts) (r .kind) at 0 (omega (arith, m .sizes .1)),
-            getD-set-same (p .lens) (r .kind) len 0 (omega (arith, m .sizes .2)),
-          ) (λ q. there ∙ same q))
-          (λ t.
-          let other : k ≢ r .kind = λ z. eqb-false (r .kind) k t (sym z) in
-          rw (t, getD-set-other (p .starts) (r .kind) k at 0 other, getD-set-other (p .lens) (r .kind) k len 0 other) (m .line k s x));
+          rw (set-at (p .starts) at k (m .sizes .1), set-at (p .lens) len k (m .sizes .2))
+          (test (eqb (r .kind) k) (λ t. rw t (λ q. there ∙ same q)) (λ t. rw t (m .line k s x)));
     }
   where
     same : {x : Rec} → some r ≡ some x → r .line ≡ x .line
     same q = cc
 
--- the declarant is the record of line 3
-next-declares : (st : State) (before : List Rec) (r : Rec) → st .count ≡ length before → st .declarant ≡ declarant before
-    → declarantOf st (r .kind) ≡ declarant (r ∷ before)
-unfolding declarantOf declarant opening
-next-declares st before r n d = rw (n, d) (ap (λ t. if t then r .kind else declarant before) (same-test (length before)))
-  where
-    same-test : (n : ℕ) → eqb n 2 ≡ eqb (suc n) 3
-    same-test n =
-        test (eqb n 2)
-        (λ t. rw (t, eqb-true n 2 t))
-        (λ t. rw (t, ne-eqb (suc n) 3 (λ e. eqb-false n 2 t (omega arith))))
-
--- no kind stands lower than a value record
-level-most : (k : ℕ) → level k ≤ deepest
-unfolding isValue
-level-most k =
-    test (isValue k) (λ t. omega (arith, value-level (isIn-says k values .0 t))) (λ t. omega (arith, opens-level k t))
+    set-at : (l : List ℕ) (a k : ℕ) → length l ≡ kinds → getD (set l (r .kind) a) k 0 ≡ (if eqb (r .kind) k then a else getD l k 0)
+    set-at l a k n =
+        test (eqb (r .kind) k)
+        (λ t. rw (t, ← eqb-true (r .kind) k t) (getD-set-same l (r .kind) a 0 (omega arith)))
+        (λ t. rw t (getD-set-other l (r .kind) k a 0 (λ q. eqb-false (r .kind) k t (sym q))))
 
 module _ {e : Edition} {below : List (List ℕ)} {text : Text} {st : State} {past : Past} {before : List Rec}
-    (h : Sums e below text st past before) (k : ℕ) (stands : mayStand e before k ≡ true) where
-  pub held-few : heldAt below st k ≤ deepest
-  held-few = omega (arith, held-same h k stands .0, open-depth (placed e (h .sound) (h .history) k .known), level-most k)
+    (h : Sums e below text st past before) (k : ℕ) where
+  abbrev up : List Open
+  up = place e before k .up
 
-  pub sums-next : (line : Text) → partOf text (st .at) (length line) ≡ line → k < kinds
-      → let r : Rec = record { kind = k; line = line; parent = parentOf e before k } in
-      (3 ≤ length (r ∷ before) → SayBelow e (declarant (r ∷ before)) below)
-      → Sums e below text (stateAfter st k (heldAt below st k) (length line))
-      (pastAfter past k (above (st .path .lines) (heldAt below st k)) (st .at) (length line)) (r ∷ before)
-  unfolding stateAfter closed bytesOf opened parentOf isValue opensNothing
-  sums-next line there small say =
-      let r : Rec = record { kind = k; line = line; parent = parentOf e before k } in
-      let q : Placed e (declarant before) k before (suc (length before)) (opened before) (place e before k .up) =
-      placed e (h .sound) (h .history) k in
-      let held = held-same h k stands in
-      record {
-        sound = h .sound;
-        say-below = say;
-        count = rw (h .count) (add-one (length before));
-        at = rw (h .at);
-        done = refl;
-        declares = next-declares st before r (h .count) (h .declares);
-        path = rw (held .0, q .found, h .count, add-one (length before))
-            (path-next (st .path) (opened before) (place e before k .up) (h .path) (held .1) k (suc (length before))
-            (λ t. omega (arith, open-depth (q .known), opens-level k t)));
-        past = rw (parent-same h k stands) (past-next text past before (h .past) r (st .at) (length line) small there);
-        history = next stands refl (h .history);
-      }
+  abbrev p : ℕ
+  p = parentOf e before k
+
+  located : 3 ≤ length before → Located (st .path) (place e before k) (heldAt below st k)
+  unfolding place heldAt opening
+  located later =
+      let p = st .path in
+      let q = place e before k in
+      rw (le-ltb (st .count) 3 (omega (arith, h .count)))
+      (subst (λ d. Located p q (heldIn below d (p .kinds) k (p .depth))) (sym (h .declares))
+      (subst (λ n. Located p q (heldIn below (declarant before) (p .kinds) k n)) (sym (h .path .depth))
+      (locate e (declarant before) below (h .say-below later) p k none (opened before) (h .path .stack) (sym (h .path .depth)))))
+
+  order-same : 3 ≤ length before → orderAt (st .path) k (heldAt below st k) ≡ inOrder (place e before k .last) k
+  unfolding orderAt inOrder
+  order-same later = rw (located later .deep) (go (place e before k .last) (located later .inside))
+    where
+      go : (c : Option Open) → Inside (st .path) c (length up) → orderAt (st .path) k (length up) ≡ inOrder c k
+      go none i = rw (le-ltb (length up) (st .path .depth) (omega arith))
+      go (some o) i = rw (lt-ltb (length up) (st .path .depth) (i .0), i .1 .kind)
+
+  -- 12 asks the same of the state as of the records
+  pub stands-same : standsOn st k (heldAt below st k) ≡ mayStand e before k
+  unfolding standsOn mayStand belowOn isPlaced opening
+  stands-same =
+      ap (λ n. if ltb n 3 then isIn k (getD opening n []) else belowOn (st .path) k (heldAt below st k)) (h .count)
+      ∙ less (length before) 3
+      (λ few. rw (lt-ltb (length before) 3 few))
+      (λ later.
+      rw (le-ltb (length before) 3 later)
+      (ap₂ (λ n o. eqb k FIMDirf || ltb 0 n && o) (located later .deep) (order-same later)))
+
+  module _ (stands : mayStand e before k ≡ true) where
+    abbrev found : Placed e (declarant before) k before (suc (length before)) (opened before) up
+    found = placed e (h .sound) (h .history) k
+
+    -- a record that may stand has as many open records outside it as the code finds: before line 4 none, since those stand deeper
+    held-same : (heldAt below st k ≡ length up) × Stack (st .path .lines) (st .path .kinds) up
+    unfolding heldAt opening
+    held-same =
+        less (length before) 3
+        (λ few.
+        let flat : 0 < level k → ⊥ = λ deep. omega (arith, has-parent e before k deep stands .0) in
+        let none = open-depth (found .known) in
+        rw (lt-ltb (st .count) 3 (omega (arith, h .count))) (omega arith, no-stack up (omega arith)))
+        (λ later. let l = located later in (l .deep, l .stack))
+      where
+        no-stack : (os : List Open) → length os ≤ 0 → Stack (st .path .lines) (st .path .kinds) os
+        no-stack [] l = tt
+        no-stack (o ∷ os) l = absurd (omega arith)
+
+    pub held-few : heldAt below st k ≤ deepest
+    held-few = omega (arith, held-same .0, open-depth (found .known), level-most k)
+
+    pub parent-same : above (st .path .lines) (heldAt below st k) ≡ p
+    unfolding parentOf
+    parent-same = rw (held-same .0) (first-above _ _ up (held-same .1) .0)
+
+    -- what is asked of the line of the last of a kind: it stood under its parent exactly where the state remembers that parent
+    asked-same : (f : Text → Bool) (g : Option Rec → Bool) → g none ≡ false → ((r : Rec) → f (r .line) ≡ g (some r)) → k < kinds
+        → 0 < level k → (stoodOn (lastIn past k) p && f (lastLine text (lastIn past k))) ≡ g (lastUnder before p k)
+    unfolding stoodOn lastIn parentIn ifUnder parentOf
+    asked-same f g of-none of-some small deep =
+        ap (λ u. eqb u p && f (lastLine text (lastIn past k))) (h .past .under k small) ∙ go (lastOf before k) refl
+        ∙ ap g (sym (last-by-kind e (h .sound) (h .history) k stands deep))
+      where
+        above-zero : 0 < p
+        above-zero = line-of (found .known) (has-parent e before k deep stands .1)
+
+        go : (l : Option Rec) → lastOf before k ≡ l → (eqb (parentIn l) p && f (lastLine text (lastIn past k))) ≡ g (ifUnder p l)
+        go none q = rw (ne-eqb 0 p (λ z. omega (arith, above-zero))) (sym of-none)
+        go (some r) q =
+            test (eqb (r .parent) p) (λ t. rw t (ap f (h .past .line k small r q) ∙ of-some r)) (λ t. rw t (sym of-none))
+
+    -- the rules that look back ask the same of the state as of the records: 21 and 20
+    pub look-same : k < kinds → (second third : Text) (cells : List Text) → second ≡ field 2 cells → third ≡ field 3 cells
+        → lookFound text (lastIn past k) k p second third
+        ≡ orElse (given 21 1 (standsOnce k && isSome (lastUnder before p k)))
+        (given 20 2 (hasKey k && notAfter k cells (lastUnder before p k)))
+    unfolding lookFound repeatedOn keyOn standsOnce isSome notAfter
+    look-same small second third cells x y =
+        ap₂ (λ s t. orElse (given 21 1 s) (given 20 2 t))
+        (test (standsOnce k)
+        (λ t.
+        let deep = value-level (isIn-says k values .0 t) in
+        rw t (sym (and-true _) ∙ asked-same (λ _. true) isSome refl (λ r. refl) small (omega arith)))
+        (λ t. rw t))
+        (test (hasKey k)
+        (λ t.
+        rw t
+        (asked-same (λ line. not (keyLess (keyOf k (fields line)) (keyParts k second third))) (notAfter k cells) refl
+        (λ r. ap (λ m. not (keyLess (keyOf k (fields (r .line))) m)) (ap₂ (keyParts k) x y ∙ sym (key-of-cells k cells)))
+        small (key-below k t)))
+        (λ t. rw t))
+
+    -- the state after a record that was taken sums up the records with that one
+    pub sums-next : (line : Text) → partOf text (st .at) (length line) ≡ line → k < kinds
+        → let r : Rec = record { kind = k; line = line; parent = p } in
+        (3 ≤ length (r ∷ before) → SayBelow e (declarant (r ∷ before)) below)
+        → Sums e below text (stateAfter st k (heldAt below st k) (length line))
+        (pastAfter past k (above (st .path .lines) (heldAt below st k)) (st .at) (length line)) (r ∷ before)
+    unfolding stateAfter closed bytesOf opened parentOf isValue opensNothing declarantOf declarant opening
+    sums-next line there small say =
+        record {
+          sound = h .sound;
+          say-below = say;
+          count = rw (h .count) (add-one (length before));
+          at = rw (h .at);
+          done = refl;
+          declares = rw (h .count, h .declares, eqb·suc-suc (length before) 2);
+          path = rw (held-same .0, found .found, h .count, add-one (length before))
+              (path-next (st .path) (opened before) up (h .path) (held-same .1) k (suc (length before))
+              (λ t. omega (arith, open-depth (found .known), opens-level k t)));
+          past = rw parent-same
+              (past-next text past before (h .past) (record { kind = k; line = line; parent = p }) (st .at) (length line) small there);
+          history = next stands refl (h .history);
+        }

@@ -180,7 +180,7 @@ module _ {e : Edition} {below : List (List ℕ)} {file : Text} {st : State} {pas
       let third : Text = cellAt ln (placesOf ln) 2 in
       rw there
       (ap (λ p. lookFound file (lastIn past kd) kd p second third) (parent-same h kd stands)
-      ∙ look-same h kd small stands second third (fields ln) (cell-is ln 1 fits) (cell-is ln 2 fits))
+      ∙ look-same h kd stands small second third (fields ln) (cell-is ln 1 fits) (cell-is ln 2 fits))
 
   many : leb linesLimit (st .count) ≡ ltb linesLimit (suc (length before))
   many = ap (leb linesLimit) (h .count) ∙ sym (leb·suc-suc linesLimit (length before))
