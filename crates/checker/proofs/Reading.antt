@@ -4,6 +4,7 @@ use mathlib.Core.Path.{_≡_, refl, sym, ap, ap₂, _∙_, subst}
 use mathlib.Core.Bool.{Bool, true, false, true≢false}
 use mathlib.Core.List.{List, [], _∷_, _++_}
 use native.Mathlib.Omega.{arith}
+use native.Mathlib.Numerals.{add-one}
 use lib.Dec.{eqb, leb, ltb}
 use lib.ListN.{length, drop, drop-of-length-le, take}
 use lib.Seq.{drop-drop, take-nil}
@@ -46,7 +47,7 @@ use Rattle.checker.proofs.Table.{held-length, put-next}
 -- what stands behind n lines
 unfoldable pub behind : ℕ → Text → Text
 behind zero s = s
-behind (suc n) s = behind n (behindLine s)
+behind (suc n) s = behindLine (behind n s)
 
 -- The state sums up the records read so far, and what the rest of the file comes to is what the file comes to. Line 3 is the one by
 -- which the table below was chosen.
@@ -56,18 +57,18 @@ pub record Reading (e : Edition) (below : List (List ℕ)) (file : Text) (room :
   pub rest : run e room before (pieces (drop (st .at) file)) ≡ verdict e file room
   pub few : st .count ≤ linesLimit
   pub close : st .at ≤ lineBytes * st .count
-  pub ahead : (n : ℕ) → st .count + n ≡ 2 → behind n (drop (st .at) file) ≡ behindLine (behindLine file)
+  pub came : drop (st .at) file ≡ behind (st .count) file
 
 pub reading-start : {e : Edition} {below : List (List ℕ)} {file : Text} {room : ℕ} → Sound e
     → Reading e below file room startState startPast []
 unfolding startState verdict behind
-reading-start {file} sound =
+reading-start sound =
     record {
       sums = sums-start sound;
       rest = refl;
       few = omega arith;
       close = omega arith;
-      ahead = λ n q. let two : 2 ≡ n = omega arith in subst (λ n. behind n file ≡ behindLine (behindLine file)) two refl;
+      came = refl;
     }
 
 -- a verdict on the records before
@@ -158,9 +159,9 @@ module _ {e : Edition} {below : List (List ℕ)} {file : Text} {room : ℕ} {st 
     say-next l =
         if-cases (λ d. SayBelow e d below) (eqb (suc (length before)) 3)
         (λ t.
-        let two : st .count + 0 ≡ 2 = omega (arith, h .sums .count, eqb-true (suc (length before)) 3 t) in
+        let two : 2 ≡ st .count = omega (arith, h .sums .count, eqb-true (suc (length before)) 3 t) in
         subst (λ d. SayBelow e d below)
-        (ap (λ s. kindIn (namesIn names) (field 1 (fields (clean s)))) (sym (h .ahead 0 two))
+        (ap (λ s. kindIn (namesIn names) (field 1 (fields (clean s)))) (ap (λ n. behind n file) two ∙ sym (h .came))
         ∙ all .say .kind (field 1 (fields (ln (h .sums)))))
         (all .say-below))
         (λ t. h .sums .say-below (omega (arith, eqb-false (suc (length before)) 3 t)))
@@ -208,8 +209,8 @@ module _ {e : Edition} {below : List (List ℕ)} {file : Text} {room : ℕ} {st 
                     ∙ ap (λ (q : Piece). run e room (recOf e before q ∷ before) (t .rest)) (sym (o .whole .is-piece)) ∙ on b;
                 few = omega (arith, h .sums .count, o .fewer);
                 close = omega (arith, h .close, o .whole .short);
-                ahead = λ m q.
-                    ap (behind m) (moved ∙ sym (drop-drop 2 (length line) (drop (st .at) file))) ∙ h .ahead (suc m) (omega (arith, q));
+                came = moved ∙ sym (drop-drop 2 (length line) (drop (st .at) file)) ∙ ap behindLine (h .came)
+                    ∙ ap (λ n. behind n file) (sym (add-one (st .count)));
               };
             }
 
