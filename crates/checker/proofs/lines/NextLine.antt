@@ -1,9 +1,9 @@
 -- The line that comes next: what the code's tests read of it, byte by byte, and what is found there.
 use Prim.Native.Nat.{ℕ, suc, _-_, _≤_, _<_, zero, _+_}
 use mathlib.Core.Path.{_≡_, refl, ap, _∙_, sym, subst}
-use mathlib.Core.Bool.{false, Bool, true, _&&_, not, true≢false}
-use mathlib.Core.List.{[], _∷_, List, _++_, append-nil, cons≢nil}
-use mathlib.Core.Logic.{_≢_, _⊎_, ⊎-elim}
+use mathlib.Core.Bool.{false, Bool, true, _&&_, not, and-false}
+use mathlib.Core.List.{[], _∷_, List, _++_, append-nil}
+use mathlib.Core.Logic.{_⊎_, ⊎-elim}
 use native.Mathlib.Omega.{arith}
 use lib.Dec.{eqb, leb, ltb}
 use lib.ListN.{length, getD, drop, take}
@@ -79,28 +79,19 @@ pub record Read (s c : Text) (n : ℕ) : Type 0 where
   pub told : scanFound piece ≡ foundOf n
   pub whole : n ≡ 0 → WholeLine s c piece rest
 
--- a file that is not ended ends in a byte
-begins : (b : ℕ) (s : Text) → (q : Piece) × (qs : List Piece) × (pieces (b ∷ s) ≡ q ∷ qs) × (q .ended ≡ false → q .body ≢ [])
-unfolding pieces push
-begins b [] = (record { body = b ∷ []; ended = false }, [], refl, λ _. cons≢nil)
-begins b (c ∷ s) = go (eqb b CR && eqb c LF) (pieces (c ∷ s))
+-- what goes on begins with a piece; behind a byte it is no end of the input, since a file that is not ended ends in a byte
+begins : (b d : ℕ) (s : Text)
+    → (q : Piece) × (qs : List Piece) × (pieces (d ∷ s) ≡ q ∷ qs) × ((not (q .ended) && nothingOrCR (b ∷ q .body)) ≡ false)
+unfolding pieces push nothingOrCR
+begins b d [] = (record { body = d ∷ []; ended = false }, [], refl, refl)
+begins b d (c ∷ s) = go (eqb d CR && eqb c LF) (pieces (c ∷ s))
   where
     go : (t : Bool) (ps : List Piece)
-        → (q : Piece) × (qs : List Piece) × ((if t then record { body = []; ended = true } ∷ pieces s else push b ps) ≡ q ∷ qs)
-        × (q .ended ≡ false → q .body ≢ [])
-    go true ps = (record { body = []; ended = true }, pieces s, refl, λ e. absurd (true≢false e))
-    go false [] = (record { body = b ∷ []; ended = false }, [], refl, λ _. cons≢nil)
-    go false (p ∷ ps) = (record { body = b ∷ p .body; ended = p .ended }, ps, refl, λ _. cons≢nil)
-
--- an open piece that begins with a CR or LF and goes on is no end of the input
-goes-on : (b : ℕ) (q : Piece) → (q .ended ≡ false → q .body ≢ []) → (not (q .ended) && nothingOrCR (b ∷ q .body)) ≡ false
-unfolding nothingOrCR
-goes-on b q h = go (q .ended) (q .body) h
-  where
-    go : (t : Bool) (s : Text) → (t ≡ false → s ≢ []) → (not t && nothingOrCR (b ∷ s)) ≡ false
-    go true s h = refl
-    go false [] h = absurd (h refl refl)
-    go false (x ∷ s) h = refl
+        → (q : Piece) × (qs : List Piece) × ((if t then record { body = []; ended = true } ∷ pieces s else push d ps) ≡ q ∷ qs)
+        × ((not (q .ended) && nothingOrCR (b ∷ q .body)) ≡ false)
+    go true ps = (record { body = []; ended = true }, pieces s, refl, refl)
+    go false [] = (record { body = d ∷ []; ended = false }, [], refl, refl)
+    go false (p ∷ ps) = (record { body = d ∷ p .body; ended = p .ended }, ps, refl, and-false (not (p .ended)))
 
 starts-unclean : (b : ℕ) (s : Text) → (b ≡ 13) ⊎ (b ≡ 10) → (unclean (b ∷ s) ≡ b ∷ s) × (clean (b ∷ s) ≡ [])
 unfolding clean unclean
@@ -165,11 +156,11 @@ module _ (c : Text) (n : NoLineEnd c) where
       (read-piece (CR ∷ LF ∷ t) (record { body = []; ended = true }) (pieces t) 0
       (pieces-front c (CR ∷ LF ∷ t) (record { body = []; ended = true }) (pieces t) n refl) (refl, refl) refl refl (λ _. (refl, refl))))
       (λ y.
-      let o = begins d t in
+      let o = begins b d t in
       let q : Piece = record { body = b ∷ o .0 .body; ended = o .0 .ended } in
       read-piece (b ∷ d ∷ t) q (o .1) 6 (pieces-front c (b ∷ d ∷ t) q (o .1) n (rw y (ap (push b) (o .2))))
       (starts-unclean b (o .0 .body) (h b (d ∷ t) refl)) (⊎-elim (λ e. rw (e, rw e at y)) (λ e. rw e) (h b (d ∷ t) refl))
-      (rw (goes-on b (o .0) (o .3))) (λ z. absurd (omega arith)))
+      (rw (o .3)) (λ z. absurd (omega arith)))
 
 pub read : (s : Text) → 0 < length s → Read s (clean s) (numberAt s)
 unfolding numberAt

@@ -141,9 +141,8 @@ module _ {e : Edition} {below : List (List ℕ)} {file : Text} {st : State} {pas
     try : (n f : ℕ) (t u : Bool) (s : Stepped) (g : Found) → t ≡ u → (u ≡ false → Outcome p rest s g)
         → Outcome p rest (if t then halt st n f else s) (orElse (given n f u) g)
     unfolding given orElse
-    try n f t u s g q o =
-        subst (λ x. Outcome p rest (if x then halt st n f else s) (orElse (given n f u) g)) (sym q)
-        (test u (λ y. rw y (gave n f)) (λ y. rw y (o y)))
+    try n f t true s g q o = rw q (gave n f)
+    try n f t false s g q o = rw q (o refl)
 
     unless : (n f : ℕ) (t : Bool) (s : Stepped) (g : Found) → Outcome p rest s g
         → Outcome p rest (if t then s else halt st n f) (orElse (given n f (not t)) g)
@@ -154,11 +153,8 @@ module _ {e : Edition} {below : List (List ℕ)} {file : Text} {st : State} {pas
     found : (x y : Found) (s : Stepped) (g : Found) → x ≡ y → (y ≡ keeps → Outcome p rest s g)
         → Outcome p rest (foundStep st x s) (orElse y g)
     unfolding foundStep orElse
-    found x y s g q o = subst (λ z. Outcome p rest (foundStep st z s) (orElse y g)) (sym q) (go y o)
-      where
-        go : (y : Found) → (y ≡ keeps → Outcome p rest s g) → Outcome p rest (foundStep st y s) (orElse y g)
-        go keeps o = o refl
-        go (breaks n f) o = gave n f
+    found x keeps s g q o = subst (λ z. Outcome p rest (foundStep st z s) g) (sym q) (o refl)
+    found x (breaks n f) s g q o = subst (λ z. Gave before (foundStep st z s) n f) (sym q) (gave n f)
 
   pub there : partOf file (st .at) (length ln) ≡ ln
   unfolding partOf
