@@ -39,7 +39,8 @@ use Rattle.checker.specs.declared.state.State.{State}
 use Rattle.checker.specs.declared.turn.Stepped.{Stepped}
 use Rattle.checker.specs.declared.turn.Record.{Record}
 use Rattle.checker.proofs.state.Sums.{Sums, sums-start, parent-same, sums-next, held-few}
-use Rattle.checker.proofs.turn.Outcome.{early, lookRule, ln, kd, rec, readAs, Took, Outcome, Turned, answer-is, there, looked-is}
+use Rattle.checker.proofs.lines.NextLine.{line-is}
+use Rattle.checker.proofs.turn.Outcome.{early, lookRule, ln, kd, rec, readAs, Took, Outcome, Turned, answer-is, looked-is}
 use Rattle.checker.proofs.turn.Outcome.{small, turned}
 use Rattle.checker.proofs.Cases.{test}
 use Rattle.checker.proofs.Table.{held-length, put-next}
@@ -204,7 +205,7 @@ module _ {e : Edition} {below : List (List ℕ)} {file : Text} {room : ℕ} {st 
               entry = ap₂ (λ x y. record { kind = r .kind; start = x; length = length line; parent = y }) (h .sums .at)
                   (parent-same (h .sums) (r .kind) (o .stands));
               reading = record {
-                sums = sums-next (h .sums) (r .kind) (o .stands) line (there (h .sums)) (small (h .sums) (all .say)) say-next;
+                sums = sums-next (h .sums) (r .kind) (o .stands) line (line-is file (st .at)) (small (h .sums) (all .say)) say-next;
                 rest = ap (λ s. run e room (r ∷ before) (pieces s)) moved ∙ ap (run e room (r ∷ before)) (sym (o .whole .is-rest))
                     ∙ ap (λ (q : Piece). run e room (recOf e before q ∷ before) (t .rest)) (sym (o .whole .is-piece)) ∙ on b;
                 few = omega (arith, h .sums .count, o .fewer);

@@ -7,7 +7,7 @@ use lib.ListN.{length, take, drop}
 use lib.Seq.{sets}
 use Rattle.dirf.specs.Bytes.{if_then_else_, Text}
 use Rattle.dirf.specs.Limits.{numbersAnEntry}
-use Rattle.dirf.specs.Edition.{Edition, edition2025}
+use Rattle.dirf.specs.Edition.{Edition}
 use Rattle.dirf.specs.Check as dirf
 use Rattle.dirf.specs.Check.{Verdict, numbersOf, verdict}
 use Rattle.dirf.specs.Theorems.Sound.{Sound}
@@ -59,7 +59,7 @@ abbrev pub Leaves : List ℕ → List ℕ → List (List ℕ) → Text → ℕ �
 Leaves names rows below file room before after =
     (e : Edition) → SayAll e names rows below file → after ≡ tableWithin (verdict e file room) before
 
--- and of the edition of 2025
-pub record Judged (file : Text) (room : ℕ) (before after : List ℕ) (r : Answer) : Type 0 where
-  pub answer : r ≡ answerOf (verdict edition2025 file room)
-  pub entries : after ≡ tableWithin (verdict edition2025 file room) before
+-- both, for one edition
+pub record Judged (e : Edition) (file : Text) (room : ℕ) (before after : List ℕ) (r : Answer) : Type 0 where
+  pub answer : r ≡ answerOf (verdict e file room)
+  pub entries : after ≡ tableWithin (verdict e file room) before

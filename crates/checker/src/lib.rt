@@ -120,7 +120,7 @@ fn walk(
 // stack.
 fn walk_pf(names: &[u8; NAME_BYTES], file: &[u8], room: usize, table: &mut [u32]) -> Answer
     requires { ⌜ (now names ≡ nameTable edition2025) × (thirdKind (now names) (now file) ≡ DECPF) ⌝ }
-    ensures { λ r. ⌜ Judged (now (file .entry)) room (now (table .entry)) (now (table .exit)) r ⌝ }
+    ensures { λ r. ⌜ Judged edition2025 (now (file .entry)) room (now (table .entry)) (now (table .exit)) r ⌝ }
 {
     let rows = layout::row_table();
     let below = layout::pf_table();
@@ -129,7 +129,7 @@ fn walk_pf(names: &[u8; NAME_BYTES], file: &[u8], room: usize, table: &mut [u32]
 
 fn walk_pj(names: &[u8; NAME_BYTES], file: &[u8], room: usize, table: &mut [u32]) -> Answer
     requires { ⌜ (now names ≡ nameTable edition2025) × (thirdKind (now names) (now file) ≡ DECPF → ⊥) ⌝ }
-    ensures { λ r. ⌜ Judged (now (file .entry)) room (now (table .entry)) (now (table .exit)) r ⌝ }
+    ensures { λ r. ⌜ Judged edition2025 (now (file .entry)) room (now (table .entry)) (now (table .exit)) r ⌝ }
 {
     let rows = layout::row_table();
     let below = layout::pj_table();
@@ -138,7 +138,7 @@ fn walk_pj(names: &[u8; NAME_BYTES], file: &[u8], room: usize, table: &mut [u32]
 
 // With the tables of 2025, and that of the declarant alone of the two.
 fn judged(file: &[u8], room: usize, table: &mut [u32]) -> Answer
-    ensures { λ r. ⌜ Judged (now (file .entry)) room (now (table .entry)) (now (table .exit)) r ⌝ }
+    ensures { λ r. ⌜ Judged edition2025 (now (file .entry)) room (now (table .entry)) (now (table .exit)) r ⌝ }
 {
     let names = layout::name_table();
     if third_kind(&names, file) == 3 {

@@ -18,6 +18,7 @@ use Rattle.dirf.specs.Theorems.Plain.{NoLineEnd}
 use Rattle.dirf.proofs.CleanLaws.{clean-unclean, lineEnd-says, clean-none, clean-front, unclean-front, unclean-begins}
 use Rattle.dirf.proofs.Bools.{and-left, and-right}
 use Rattle.dirf.proofs.WholeLaws.{pieces-front, rest-piece}
+use Rattle.fields.specs.Places.{partOf}
 use Rattle.checker.specs.Lines.{endOf, numberAt}
 use Rattle.checker.proofs.Cases.{test}
 
@@ -169,5 +170,8 @@ read s h =
     (read-from (clean s) (clean-none s) (unclean s) (λ b t e. unclean-begins s b t e) (subst (λ x. 0 < length x) (clean-unclean s) h))
 
 -- the line is what stands at its place
-pub line-is : (s : Text) → take (length (clean s)) s ≡ clean s
-line-is s = ap (take (length (clean s))) (clean-unclean s) ∙ take-append-seam (clean s) (unclean s)
+pub line-is : (s : Text) (i : ℕ) → partOf s i (length (clean (drop i s))) ≡ clean (drop i s)
+unfolding partOf
+line-is s i =
+    let c : Text = clean (drop i s) in
+    ap (take (length c)) (clean-unclean (drop i s)) ∙ take-append-seam c (unclean (drop i s))

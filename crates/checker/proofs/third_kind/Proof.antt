@@ -10,8 +10,8 @@ use Rattle.checker.proofs.third_kind.Statement.{statement}
 use Rattle.checker.proofs.third_kind.Tie as tie
 
 line : (s : Text) → partOf s 0 (scanOf s .len) ≡ clean s
-unfolding partOf scanOf
-line s = line-is s
+unfolding scanOf
+line s = line-is s 0
 
 pub third-kind-spec : {M : Type 1} → statement M
 unfolding thirdKind

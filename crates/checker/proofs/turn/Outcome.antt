@@ -156,10 +156,6 @@ module _ {e : Edition} {below : List (List ℕ)} {file : Text} {st : State} {pas
     found x keeps s g q o = subst (λ z. Outcome p rest (foundStep st z s) g) (sym q) (o refl)
     found x (breaks n f) s g q o = subst (λ z. Gave before (foundStep st z s) n f) (sym q) (gave n f)
 
-  pub there : partOf file (st .at) (length ln) ≡ ln
-  unfolding partOf
-  there = line-is left
-
   place-is : placeFound st kd (heldAt below st kd) ≡ placeRule e before ln
   unfolding placeFound
   place-is = ap (λ t. orElse (given 9 1 (eqb kd 0)) (orElse (given 10 1 (isLater kd)) (given 12 1 (not t)))) (stands-same h kd)
@@ -174,7 +170,7 @@ module _ {e : Edition} {below : List (List ℕ)} {file : Text} {st : State} {pas
   looked-is small stands fits =
       let second : Text = cellAt ln (placesOf ln) 1 in
       let third : Text = cellAt ln (placesOf ln) 2 in
-      rw there
+      rw (line-is file (st .at))
       (ap (λ p. lookFound file (lastIn past kd) kd p second third) (parent-same h kd stands)
       ∙ look-same h kd stands small second third (fields ln) (cell-is ln 1 fits) (cell-is ln 2 fits))
 
@@ -208,9 +204,9 @@ module _ {e : Edition} {below : List (List ℕ)} {file : Text} {st : State} {pas
     -- a whole line
     whole-outcome : (p : Piece) (rest : List Piece) → WholeLine left ln p rest → length before < linesLimit
         → Outcome p rest (recordStep names rows below (partOf left 0 (length ln)) st (placesOf ln)) (lateRule e before ln)
-    unfolding partOf recordStep readStep recordOf
+    unfolding recordStep readStep recordOf
     whole-outcome p rest whole fewer =
-        rw (line-is left, kind-is)
+        rw (line-is left 0, kind-is)
         (unless p rest 8 0 (endsWith bar ln) _ _
         (found p rest _ (placeRule e before ln) _ _ place-is (λ q.
         subst (Outcome p rest _) (or-keeps (fillRule e before ln))
