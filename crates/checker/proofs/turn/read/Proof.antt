@@ -1,17 +1,10 @@
 -- What is found stops the turn.
-use mathlib.Core.Path.{_≡_, _∙_}
+use mathlib.Core.Path.{_∙_}
 use borrow.Author.Needs.{needs}
-use Rattle.checker.specs.State.{placeFound}
-use Rattle.checker.specs.Turn.{foundStep, went, readStep}
-use Rattle.checker.specs.declared.turn.Stepped.{Stepped}
+use Rattle.checker.specs.Turn.{went, readStep}
 use Rattle.checker.proofs.turn.Stops.{stopped, kept, place-numbered, filled-numbered}
 use Rattle.checker.proofs.turn.read.Statement.{statement}
 use Rattle.checker.proofs.turn.read.Tie as tie
-
--- its place keeps the rules, so that it goes on
-placed : (c : tie.Else1) (s : Stepped) → let a = c .before .before .before .before .args in
-    s ≡ foundStep (a .st) (placeFound (a .st) (a .r .kind) (a .r .outer)) s
-placed c s = kept _ (c .before .before .place-found .ensures) _ s (place-numbered _ _ _) (c .if1 .left)
 
 pub read-spec : {M : Type 1} → statement M
 unfolding readStep
@@ -25,11 +18,14 @@ read-spec =
     (λ c κs. c .before .before .before .before .before .before .before .pre .near .few)
     (λ c.
     let g = c .before .before .before in
-    let a = g .before .before .before .before .before .args in
-    c .refuse2 .ensures ∙ stopped _ (g .filled-found .ensures) (a .st) (went (a .r)) (c .before .if2 .taken) ∙ placed (g .before) _)
+    let p = g .before .before .before in
+    let a = p .before .before .args in
+    c .refuse2 .ensures ∙ stopped _ (g .filled-found .ensures) (a .st) (went (a .r)) (c .before .if2 .taken)
+    ∙ kept _ (p .place-found .ensures) (a .st) _ (place-numbered _ _ _) (g .before .if1 .left))
     (λ c κs. search needs)
     (λ c.
     let g = c .before .before .before in
-    let a = g .before .before .before .before .before .args in
+    let p = g .before .before .before in
+    let a = p .before .before .args in
     c .go-on .ensures ∙ kept _ (g .filled-found .ensures) (a .st) (went (a .r)) (filled-numbered _ _ _ _ _) (c .before .if2 .left)
-    ∙ placed (g .before) _))
+    ∙ kept _ (p .place-found .ensures) (a .st) _ (place-numbered _ _ _) (g .before .if1 .left)))
