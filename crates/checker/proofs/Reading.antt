@@ -83,13 +83,9 @@ module _ (e : Edition) (room : ℕ) (before : List Rec) (p : Piece) where
   fullRule = given 7 0 (ltb room (suc (length before)))
 
   -- 21 and 20, then 7, come last
-  look-is : first parts.lookBack (here e room before p) ≡ lookRule e before (p .body)
+  last-two : let h = here e room before p in (first parts.lookBack h ≡ lookRule e before (p .body)) × (first parts.room h ≡ fullRule)
   unfolding first ask line-opens
-  look-is = simp or-keeps
-
-  room-is : first parts.room (here e room before p) ≡ fullRule
-  unfolding first ask line-opens
-  room-is = simp or-keeps
+  last-two = (simp or-keeps, simp or-keeps)
 
   last-parts : {f : Found} → first early (here e room before p) ≡ f
       → breach e room before p ≡ orElse (orElse f (lookRule e before (p .body))) fullRule
@@ -97,7 +93,7 @@ module _ (e : Edition) (room : ℕ) (before : List Rec) (p : Piece) where
   last-parts q =
       let h = here e room before p in
       first-append (early ++ parts.lookBack) parts.room h
-      ∙ ap₂ orElse (first-append early parts.lookBack h ∙ ap₂ orElse q look-is) room-is
+      ∙ ap₂ orElse (first-append early parts.lookBack h ∙ ap₂ orElse q (last-two .0)) (last-two .1)
 
 module _ {e : Edition} {below : List (List ℕ)} {file : Text} {room : ℕ} {st : State} {past : Past} {before : List Rec}
     (h : Reading e below file room st past before) where

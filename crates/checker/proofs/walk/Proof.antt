@@ -48,11 +48,8 @@ looked c = c .before .before .before .before .before .before
 abbrev asked : tie.After-struct-known3 Inv-loop μ-loop → tie.Else1 Inv-loop μ-loop
 asked c = looked (c .before .before .before)
 
-abbrev entered : tie.After-entry-numbers Inv-loop μ-loop → tie.Else1 Inv-loop μ-loop
-entered c = asked (c .before .before .before)
-
 abbrev written : tie.After-slice-known2 Inv-loop μ-loop → tie.Else1 Inv-loop μ-loop
-written c = entered (c .before .before .before .before .before)
+written c = asked (c .before .before .before .before .before .before .before .before)
 
 -- it keeps 21 and 20
 kept : (c : tie.Else2 Inv-loop μ-loop) → let o = looked (c .before .before) in let l = o .before .before .loop in
@@ -127,7 +124,7 @@ walk-spec =
     (λ c κs. fits (asked (c .before)))
     (λ c κs. search needs)
     (λ c. search needs)
-    (λ c κs. (close (entered (c .before .before) .before .before) .few, rw (c .before .before .entry-numbers .ensures)))
+    (λ c κs. let n = c .before .before in (close (asked (n .before .before .before) .before .before) .few, rw (n .entry-numbers .ensures)))
     (λ c. omega (arith, fits (written c) .kind))
     (λ c. omega (arith, fits (written c) .kind))
     (λ c. omega (arith, fits (written c) .kind))
