@@ -24,10 +24,5 @@ key-bad-spec =
     (λ c.
     let b = c .before .before .before .before in
     let n = b .before .before .before .key-count in
-    simp (
-      ← n .ensures,
-      lt-ltb 0 (n .result) (omega (arith, b .before .before .if1 .left)),
-      eq-eqb _ _ (b .if2 .left),
-      c .key-less .ensures,
-      c .before .part .ensures .0,
-    )))
+    let some = lt-ltb 0 (n .result) (omega (arith, b .before .before .if1 .left)) in
+    simp (← n .ensures, some, eq-eqb _ _ (b .if2 .left), c .key-less .ensures, c .before .part .ensures .0)))

@@ -20,12 +20,9 @@ path-after-spec =
     let a = c .before .before .before .args in
     let lines : length (a .path .lines) ≡ deepest = search needs in
     let kinds : length (a .path .kinds) ≡ deepest = search needs in
-    simp (
-      ← c .before .before .opens-nothing .ensures,
-      c .before .if1 .left,
-      set-out (a .path .lines) (a .d) (a .n) (omega (arith, c .if2 .taken)),
-      set-out (a .path .kinds) (a .d) (a .k) (omega (arith, c .if2 .taken)),
-    ))
+    let same-lines = set-out (a .path .lines) (a .d) (a .n) (omega (arith, c .if2 .taken)) in
+    let same-kinds = set-out (a .path .kinds) (a .d) (a .k) (omega (arith, c .if2 .taken)) in
+    simp (← c .before .before .opens-nothing .ensures, c .before .if1 .left, same-lines, same-kinds))
     (λ c. search needs)
     (λ c. search needs)
     (λ c. search needs)
