@@ -244,7 +244,7 @@ module _ {e : Edition} {below : List (List ℕ)} {text : Text} {st : State} {pas
     abbrev found : Placed e (declarant before) k before (suc (length before)) (opened before) up
     found = placed e (h .sound) (h .history) k
 
-    -- a record that may stand has as many open records outside it as the code finds: before line 4 none, since those stand deeper
+    -- a record that may stand has as many open records outside it as the code finds; nothing holds an opening line
     held-same : (heldAt below st k ≡ length up) × Stack (st .path .lines) (st .path .kinds) up
     unfolding heldAt opening
     held-same =
