@@ -1,285 +1,291 @@
 -- What holds of the state between two lines, and what one turn makes of it: the verdict, or one record more.
-use Prim.Native.Nat.{ℕ, zero, suc, _+_, _*_, _≤_, _<_}
+use Prim.Native.Nat.{ℕ, zero, suc, _+_, _*_, _≤_, _<_, _/_}
 use mathlib.Core.Path.{_≡_, refl, sym, ap, ap₂, _∙_, subst}
 use mathlib.Core.Bool.{Bool, true, false, true≢false}
 use mathlib.Core.List.{List, [], _∷_, _++_}
 use native.Mathlib.Omega.{arith}
+use native.Mathlib.Numerals.{add-one}
 use lib.Dec.{eqb, leb, ltb}
-use lib.ListN.{length, drop, drop-of-length-le}
-use lib.Seq.{drop-drop}
-use borrow.Author.Tests.{leb-true, leb-false, ltb-false, lt-ltb, le-ltb, eqb-true, eqb-false}
+use lib.ListN.{length, drop, drop-of-length-le, take}
+use lib.Seq.{drop-drop, take-nil}
+use borrow.Author.Tests.{leb-true, leb-false, lt-ltb, le-ltb, eqb-true, eqb-false}
 use Rattle.dirf.specs.Bytes.{if_then_else_, Text}
-use Rattle.dirf.specs.Limits.{linesLimit, lineLimit}
+use Rattle.dirf.specs.Limits.{linesLimit, numbersAnEntry}
 use Rattle.dirf.specs.Edition.{Edition, kindIn}
 use Rattle.dirf.specs.Lines.{Piece, pieces, clean, fields, field}
 use Rattle.dirf.specs.FieldReader.{fieldOf}
-use Rattle.dirf.specs.Rules.{Found, keeps, breaks, given, orElse, ask, first, askedOf, over}
-use Rattle.dirf.specs.Tree.{Rec, declarant, opening, parentOf}
-use Rattle.dirf.specs.Order.{here, kindOfLine, lineNumber, closed, tooManyLines, order, line-opens}
+use Rattle.dirf.specs.Rules.{Found, keeps, breaks, given, orElse, ask, first}
+use Rattle.dirf.specs.Tree.{Rec, declarant, opening}
+use Rattle.dirf.specs.Order.{here, kindOfLine, order, line-opens}
 use Rattle.dirf.specs.Order as parts
-use Rattle.dirf.specs.Check.{entryOf as entryAfter, bytesOf, tableOf, Verdict, refused, accepted, noBytesLeft, recOf, breach, afterLine, run, verdict}
-use Rattle.dirf.proofs.Bools.{if-cases}
-use Rattle.dirf.proofs.Lists.{listed}
-use Rattle.dirf.proofs.Asked.{rule-kept}
+use Rattle.dirf.specs.Check.{entryOf as entryAfter, bytesOf, tableOf, Verdict, refused, accepted, noBytesLeft, recOf, breach, afterLine}
+use Rattle.dirf.specs.Check.{run, verdict, entryNumbers, numbersOf}
+use Rattle.dirf.specs.Theorems.Sound.{Sound}
+use Rattle.dirf.proofs.Bools.{if-cases, by-answer}
 use Rattle.dirf.proofs.RulesPut.{first-append}
 use Rattle.dirf.proofs.History.{table-length}
 use Rattle.dirf.proofs.OpenRecords.{open-depth}
 use Rattle.dirf.proofs.Opened.{open-records}
 use Rattle.layout.specs.Tables.{namesIn}
 use Rattle.layout.specs.LaidOut.{SayBelow}
+use Rattle.rules.proofs.Laws.{or-keeps}
 use Rattle.checker.specs.Lines.{afterLine as behindLine, thirdKind}
-use Rattle.checker.specs.State.{deepest, lineBytes, startState, startPast, lastIn, above, Near, pastAfter, stateAfter}
+use Rattle.checker.specs.State.{lineBytes, startState, startPast, lastIn, above, Near, pastAfter, stateAfter}
 use Rattle.checker.specs.Turn.{refusedAt, haltAt, halt, Fits, lookedFound, entryOf, turnOf}
-use Rattle.checker.specs.Answers.{answerOf, entryOfCode, SayAll}
+use Rattle.checker.specs.Answers.{answerOf, entryOfCode, SayAll, withEntries, tableWithin, putEntry}
 use Rattle.checker.specs.declared.Answer.{Answer}
 use Rattle.checker.specs.declared.state.Past.{Past}
 use Rattle.checker.specs.declared.state.State.{State}
 use Rattle.checker.specs.declared.turn.Stepped.{Stepped}
 use Rattle.checker.specs.declared.turn.Record.{Record}
-use Rattle.checker.proofs.state.Sums.{Sums, sums-start, held-same, parent-same}
-use Rattle.checker.proofs.state.Next.{sums-next, held-few}
-use Rattle.checker.proofs.turn.Outcome.{early, or-keeps, lookRule, Took, Outcome, readAs, answer-is, there, small, looked-is, Turned, turned}
+use Rattle.checker.proofs.state.Sums.{Sums, sums-start, parent-same, held-few}
+use Rattle.checker.proofs.state.Next.{sums-next}
+use Rattle.checker.proofs.lines.NextLine.{line-is}
+use Rattle.checker.proofs.turn.Outcome.{early, lookRule, ln, kd, rec, readAs, Took, Outcome, Turned, answer-is, looked-is}
+use Rattle.checker.proofs.turn.Outcome.{small, turned}
+use Rattle.checker.proofs.Table.{held-length, put-next}
 
 -- what stands behind n lines
 unfoldable pub behind : ℕ → Text → Text
 behind zero s = s
-behind (suc n) s = behind n (behindLine s)
+behind (suc n) s = behindLine (behind n s)
 
-module _ (e : Edition) (names rows : List ℕ) (below : List (List ℕ)) (file : Text) (room : ℕ) (all : SayAll e names rows below file) where
-  -- The state sums up the records read so far, and what the rest of the file comes to is what the file comes to. Line 3 is the one by
-  -- which the table below was chosen.
-  pub record Reading (st : State) (past : Past) (before : List Rec) : Type 0 where
-    pub sums : Sums e file st past before
-    pub rest : run e room before (pieces (drop (st .at) file)) ≡ verdict e file room
-    pub few : st .count ≤ linesLimit
-    pub close : st .at ≤ lineBytes * st .count
-    pub ahead : (n : ℕ) → st .count + n ≡ 2 → behind n (drop (st .at) file) ≡ behindLine (behindLine file)
-    pub third : 3 ≤ length before → declarant before ≡ thirdKind names file
+-- The state sums up the records read so far, and what the rest of the file comes to is what the file comes to. Line 3 is the one by
+-- which the table below was chosen.
+pub record Reading (e : Edition) (below : List (List ℕ)) (file : Text) (room : ℕ) (st : State) (past : Past) (before : List Rec)
+    : Type 0 where
+  pub sums : Sums e below file st past before
+  pub rest : run e room before (pieces (drop (st .at) file)) ≡ verdict e file room
+  pub few : st .count ≤ linesLimit
+  pub close : st .at ≤ lineBytes * st .count
+  pub came : drop (st .at) file ≡ behind (st .count) file
 
-  pub reading-start : Reading startState startPast []
-  unfolding startState verdict behind
-  reading-start =
-      record {
-        sums = sums-start e file;
-        rest = refl;
-        few = omega arith;
-        close = omega arith;
-        ahead = λ n q. let two : 2 ≡ n = omega arith in subst (λ n. behind n file ≡ behindLine (behindLine file)) two refl;
-        third = λ l. absurd (omega arith);
-      }
+pub reading-start : {e : Edition} {below : List (List ℕ)} {file : Text} {room : ℕ} → Sound e
+    → Reading e below file room startState startPast []
+unfolding startState verdict behind
+reading-start sound =
+    record {
+      sums = sums-start sound;
+      rest = refl;
+      few = omega arith;
+      close = omega arith;
+      came = refl;
+    }
 
-  -- a verdict on the records before
-  pub record Stops (before : List Rec) (a : Answer) : Type 0 where
-    pub answer : a ≡ answerOf (verdict e file room)
-    pub table : verdict e file room .table ≡ tableOf before
+-- a verdict on the records before
+pub record Stops (v : Verdict) (before : List Rec) (a : Answer) : Type 0 where
+  pub answer : a ≡ answerOf v
+  pub table : v .table ≡ tableOf before
+
+module _ (e : Edition) (room : ℕ) (before : List Rec) (p : Piece) where
+  -- 7
+  abbrev fullRule : Found
+  fullRule = given 7 0 (ltb room (suc (length before)))
 
   -- 21 and 20, then 7, come last
-  look-is : (before : List Rec) (p : Piece) → first parts.lookBack (here e room before p) ≡ lookRule e before (p .body) (kindOfLine e (p .body))
+  last-two : let h = here e room before p in (first parts.lookBack h ≡ lookRule e before (p .body)) × (first parts.room h ≡ fullRule)
   unfolding first ask line-opens
-  look-is before p = simp or-keeps
+  last-two = (simp or-keeps, simp or-keeps)
 
-  room-is : (before : List Rec) (p : Piece) → first parts.room (here e room before p) ≡ given 7 0 (ltb room (suc (length before)))
-  unfolding first ask line-opens
-  room-is before p = simp or-keeps
-
-  last-parts : (before : List Rec) (p : Piece)
-      → breach e room before p
-      ≡ orElse (orElse (first early (here e room before p)) (lookRule e before (p .body) (kindOfLine e (p .body))))
-      (given 7 0 (ltb room (suc (length before))))
+  last-parts : {f : Found} → first early (here e room before p) ≡ f
+      → breach e room before p ≡ orElse (orElse f (lookRule e before (p .body))) fullRule
   unfolding breach order
-  last-parts before p =
+  last-parts q =
       let h = here e room before p in
       first-append (early ++ parts.lookBack) parts.room h
-      ∙ ap₂ orElse (first-append early parts.lookBack h ∙ ap (orElse (first early h)) (look-is before p)) (room-is before p)
+      ∙ ap₂ orElse (first-append early parts.lookBack h ∙ ap₂ orElse q (last-two .0)) (last-two .1)
 
-  -- a line that keeps the first rules is not too late
-  few-lines : (before : List Rec) (p : Piece) → first early (here e room before p) ≡ keeps → length before < linesLimit
-  unfolding here lineNumber tooManyLines over askedOf
-  few-lines before p kept =
-      ltb-false linesLimit (suc (length before)) (rule-kept 3 0 tooManyLines (here e room before p) (search listed depth 30) kept)
+module _ {e : Edition} {below : List (List ℕ)} {file : Text} {room : ℕ} {st : State} {past : Past} {before : List Rec}
+    (h : Reading e below file room st past before) where
+  pub near : Near st
+  near =
+      record {
+        few = h .few;
+        near = h .close;
+        shallow = omega (arith, h .sums .path .depth, open-depth (open-records e (h .sums .sound) (h .sums .history)));
+      }
 
-  module _ (st : State) (past : Past) (before : List Rec) (h : Reading st past before) where
-    pub near : Near st
-    near =
-        record {
-          few = h .few;
-          near = h .close;
-          shallow = omega (arith, h .sums .path .depth, open-depth (open-records e (all .sound) (h .sums .history)));
-        }
+  abbrev Stop : Answer → Type 0
+  Stop = Stops (verdict e file room) before
 
-    say-below : 3 ≤ length before → SayBelow e (declarant before) below
-    say-below l = subst (λ d. SayBelow e d below) (sym (h .third l)) (all .say-below)
+  -- one record more
+  pub record Goes (r : Record) : Type 0 where
+    pub rec : Rec
+    pub entry : entryOfCode (entryOf st r) ≡ entryAfter rec before
+    pub reading : Reading e below file room (stateAfter st (r .kind) (r .outer) (r .len))
+        (pastAfter past (r .kind) (above (st .path .lines) (r .outer)) (st .at) (r .len)) (rec ∷ before)
 
-    -- one record more
-    pub record Goes (r : Record) : Type 0 where
-      pub rec : Rec
-      pub entry : entryOfCode (entryOf st r) ≡ entryAfter rec before
-      pub reading : Reading (stateAfter st (r .kind) (r .outer) (r .len))
-          (pastAfter past (r .kind) (above (st .path .lines) (r .outer)) (st .at) (r .len)) (rec ∷ before)
+  -- a record was read: what 21 and 20, and then 7, make of it
+  pub record On (r : Record) : Type 0 where
+    pub fits : Fits st r
+    pub refuses : (n f : ℕ) → lookedFound file st r (lastIn past (r .kind)) ≡ breaks n f → Stop (refusedAt (st .count) n f)
+    pub full : lookedFound file st r (lastIn past (r .kind)) ≡ keeps → room ≤ st .count → Stop (refusedAt (st .count) 7 0)
+    pub goes : lookedFound file st r (lastIn past (r .kind)) ≡ keeps → st .count < room → Goes r
 
-    -- a record was read: what 21 and 20, and then 7, make of it
-    pub record On (r : Record) : Type 0 where
-      pub fits : Fits st r
-      pub refuses : (n f : ℕ) → lookedFound file st r (lastIn past (r .kind)) ≡ breaks n f → Stops before (refusedAt (st .count) n f)
-      pub full : lookedFound file st r (lastIn past (r .kind)) ≡ keeps → room ≤ st .count → Stops before (refusedAt (st .count) 7 0)
-      pub goes : lookedFound file st r (lastIn past (r .kind)) ≡ keeps → st .count < room → Goes r
+  pub record Step (s : Stepped) : Type 0 where
+    pub stops : s .stop ≡ true → Stop (s .answer)
+    pub goes : s .stop ≡ false → On (s .read)
 
-    pub record Step (s : Stepped) : Type 0 where
-      pub stops : s .stop ≡ true → Stops before (s .answer)
-      pub goes : s .stop ≡ false → On (s .read)
+  ends : (a : Answer) (v : Verdict) → a ≡ answerOf v → v .table ≡ tableOf before → v ≡ verdict e file room → Stop a
+  ends a v q t w = record { answer = q ∙ ap answerOf w; table = sym (ap (λ (v : Verdict). v .table) w) ∙ t }
 
-    ends : (a : Answer) (v : Verdict) → a ≡ answerOf v → v .table ≡ tableOf before → v ≡ verdict e file room → Stops before a
-    ends a v q t w = record { answer = q ∙ ap answerOf w; table = sym (ap (λ (v : Verdict). v .table) w) ∙ t }
+  stopped : (s : Stepped) → s .stop ≡ true → Stop (s .answer) → Step s
+  stopped s d w = record { stops = λ _. w; goes = λ g. absurd (true≢false (sym d ∙ g)) }
 
-    stopped : (s : Stepped) → s .stop ≡ true → Stops before (s .answer) → Step s
-    stopped s d w = record { stops = λ _. w; goes = λ g. absurd (true≢false (sym d ∙ g)) }
+  -- the file ends here
+  end-is : length file ≤ st .at → {d : Bool} → st .done ≡ d → (if d then accepted before else refused before 1 0) ≡ verdict e file room
+  unfolding run noBytesLeft pieces
+  end-is l q =
+      ap (λ t. if t then accepted before else refused before 1 0) (sym q ∙ h .sums .done)
+      ∙ sym (ap (λ s. run e room before (pieces s)) (drop-of-length-le file l)) ∙ h .rest
 
-    -- the file ends here
-    end-step : length file ≤ st .at → Step (if st .done then haltAt (record { number = 0; line = st .count; field = 0; entries = st .count }) else halt st 1 0)
-    unfolding run noBytesLeft accepted refused answerOf pieces
-    end-step l =
-        subst (λ d. Step (if d then haltAt (record { number = 0; line = st .count; field = 0; entries = st .count }) else halt st 1 0)) (sym (h .sums .done)) (go (closed before) on)
-      where
-        on : noBytesLeft before ≡ verdict e file room
-        on = sym (ap (λ s. run e room before (pieces s)) (drop-of-length-le file l)) ∙ h .rest
+  end-step : length file ≤ st .at → (d : Bool) → st .done ≡ d
+      → Step (if d then haltAt (record { number = 0; line = st .count; field = 0; entries = st .count }) else halt st 1 0)
+  unfolding accepted refused answerOf
+  end-step l true q =
+      let n = h .sums .count in
+      stopped _ refl
+      (ends _ (accepted before) (ap₂ (λ x y. record { number = 0; line = x; field = 0; entries = y }) n (n ∙ sym (table-length before)))
+      refl (end-is l q))
+  end-step l false q = stopped _ refl (ends _ (refused before 1 0) (answer-is (h .sums) 1 0) refl (end-is l q))
 
-        n : st .count ≡ length before
-        n = h .sums .count
-
-        answers : (number : ℕ) {line last : ℕ} → line ≡ last
-            → _≡_ {A = Answer} (record { number = number; line = line; field = 0; entries = st .count })
-            (record { number = number; line = last; field = 0; entries = length (tableOf before) })
-        answers number q = ap₂ (λ x y. record { number = number; line = x; field = 0; entries = y }) q (n ∙ sym (table-length before))
-
-        go : (t : Bool) → (if t then accepted before else refused before 1 0) ≡ verdict e file room
-            → Step (if t then haltAt (record { number = 0; line = st .count; field = 0; entries = st .count }) else halt st 1 0)
-        go true q = stopped _ refl (ends _ (accepted before) (answers 0 n) refl q)
-        go false q = stopped _ refl (ends _ (refused before 1 0) (answers 1 (omega (arith, n))) refl q)
-
+  module _ {names rows : List ℕ} (all : SayAll e names rows below file) where
     -- the declarant after one more line
-    third-next : (r : Rec) → r .line ≡ clean (drop (st .at) file) → r .kind ≡ kindOfLine e (r .line) → 3 ≤ length (r ∷ before)
-        → declarant (r ∷ before) ≡ thirdKind names file
+    say-next : 3 ≤ suc (length before) → SayBelow e (declarant (rec (h .sums) ∷ before)) below
     unfolding declarant opening thirdKind kindOfLine fieldOf behind
-    third-next r line kind l =
-        if-cases (λ d. d ≡ thirdKind names file) (eqb (suc (length before)) 3)
+    say-next l =
+        if-cases (λ d. SayBelow e d below) (eqb (suc (length before)) 3)
         (λ t.
-        let two : st .count + 0 ≡ 2 = omega (arith, h .sums .count, eqb-true (suc (length before)) 3 t) in
-        kind ∙ sym (all .say .kind (field 1 (fields (r .line))))
-        ∙ ap (λ s. kindIn (namesIn names) (field 1 (fields s))) (line ∙ ap clean (h .ahead 0 two)))
-        (λ t. h .third (omega (arith, eqb-false (suc (length before)) 3 t)))
+        let two : 2 ≡ st .count = omega (arith, h .sums .count, eqb-true (suc (length before)) 3 t) in
+        subst (λ d. SayBelow e d below)
+        (ap (λ s. kindIn (namesIn names) (field 1 (fields (clean s)))) (ap (λ n. behind n file) two ∙ sym (h .came))
+        ∙ all .say .kind (field 1 (fields (ln (h .sums)))))
+        (all .say-below))
+        (λ t. h .sums .say-below (omega (arith, eqb-false (suc (length before)) 3 t)))
 
-    module _ (s : Stepped) (t : Turned e (all .sound) names rows (all .say) below file st past before (h .sums) say-below room s) where
+    module _ (s : Stepped) (t : Turned (h .sums) room s) where
       abbrev p : Piece
       p = t .piece
 
       abbrev later : Verdict
       later = run e room (recOf e before p ∷ before) (t .rest)
 
-      on : afterLine before (breach e room before p) later ≡ verdict e file room
+      on : {f : Found} → breach e room before p ≡ f → afterLine before f later ≡ verdict e file room
       unfolding run
-      on = sym (ap (run e room before) (t .first-of)) ∙ h .rest
+      on b = sym (ap (λ f. afterLine before f later) b) ∙ sym (ap (run e room before) (t .first-of)) ∙ h .rest
 
-      broken : (n f : ℕ) (a : Answer) → breach e room before p ≡ breaks n f
-          → a ≡ record { number = n; line = suc (length before); field = f; entries = length before } → Stops before a
-      unfolding afterLine refused answerOf
-      broken n f a b q =
-          ends a (refused before n f)
-          (q ∙ ap (λ x. record { number = n; line = suc (length before); field = f; entries = x }) (sym (table-length before))) refl
-          (sym (ap (λ f. afterLine before f later) b) ∙ on)
+      broken : (n f : ℕ) (a : Answer) → breach e room before p ≡ breaks n f → a ≡ answerOf (refused before n f) → Stop a
+      unfolding afterLine refused
+      broken n f a b q = ends a (refused before n f) q refl (on b)
 
-      module _ (kept : first early (here e room before p) ≡ keeps) (o : Took e below file st before p (t .rest) s) where
-        abbrev r′ : Record
-        r′ = readAs e below file st before
-
-        abbrev line : Text
-        line = clean (drop (st .at) file)
-
-        abbrev k : ℕ
-        k = kindOfLine e line
-
-        abbrev r : Rec
-        r = record { kind = k; line = line; parent = parentOf e before k }
-
-        breach-is : breach e room before p ≡ orElse (lookedFound file st r′ (lastIn past k)) (given 7 0 (ltb room (suc (length before))))
+      module _ (kept : first early (here e room before p) ≡ keeps) (o : Took (h .sums) p (t .rest) s) where
+        breach-is : {f : Found} → lookedFound file st (readAs (h .sums)) (lastIn past (kd (h .sums))) ≡ f
+            → breach e room before p ≡ orElse f (fullRule e room before p)
         unfolding orElse
-        breach-is =
-            last-parts before p
-            ∙ ap (λ f. orElse (orElse f (lookRule e before (p .body) (kindOfLine e (p .body)))) (given 7 0 (ltb room (suc (length before))))) kept
-            ∙ ap (λ (q : Piece). orElse (lookRule e before (q .body) (kindOfLine e (q .body))) (given 7 0 (ltb room (suc (length before))))) (o .is-piece)
-            ∙ ap (λ f. orElse f (given 7 0 (ltb room (suc (length before)))))
-            (sym (looked-is e (all .sound) names rows (all .say) below file st past before (h .sums) say-below (o .stands) (o .few)))
+        breach-is q =
+            last-parts e room before p kept
+            ∙ ap (λ (q : Piece). orElse (lookRule e before (q .body)) (fullRule e room before q)) (o .whole .is-piece)
+            ∙ ap (λ f. orElse f (fullRule e room before p))
+            (sym (looked-is (h .sums) (small (h .sums) (all .say)) (o .stands) (o .few)) ∙ q)
 
-        safe : Fits st r′
-        safe =
-            let held = held-same e (all .sound) file st past before (h .sums) below say-below k (o .stands) in
-            record {
-              kind = small e (all .sound) names rows (all .say) below file st past before (h .sums) say-below;
-              outer = held-few e (all .sound) file st past before (h .sums) below say-below k (small e (all .sound) names rows (all .say) below file st past before (h .sums) say-below) (o .stands) line;
-              short = o .short;
-              safe = record { fewer = omega (arith, few-lines before p kept, h .sums .count); near = near };
-            }
-
-        more : breach e room before p ≡ keeps → Goes r′
+        more : breach e room before p ≡ keeps → Goes (readAs (h .sums))
         unfolding afterLine recOf bytesOf entryAfter entryOf behind stateAfter behindLine
         more b =
-            let parent = parent-same e (all .sound) file st past before (h .sums) below say-below k (o .stands) in
-            let n = few-lines before p kept in
+            let line : Text = ln (h .sums) in
+            let r : Rec = rec (h .sums) in
             let sum : st .at + length line + 2 ≡ st .at + (length line + 2) = omega arith in
             let moved : drop (st .at + length line + 2) file ≡ drop (length line + 2) (drop (st .at) file) =
             ap (λ x. drop x file) sum ∙ sym (drop-drop (length line + 2) (st .at) file) in
             record {
               rec = r;
-              entry = ap₂ (λ x y. record { kind = k; start = x; length = length line; parent = y }) (h .sums .at) parent;
+              entry = ap₂ (λ x y. record { kind = r .kind; start = x; length = length line; parent = y }) (h .sums .at)
+                  (parent-same (h .sums) (r .kind) (o .stands));
               reading = record {
-                sums = sums-next e (all .sound) file st past before (h .sums) below say-below k (safe .kind) (o .stands) line
-                    (there e (all .sound) names rows (all .say) below file st past before (h .sums) say-below);
-                rest = ap (λ s. run e room (r ∷ before) (pieces s)) moved ∙ ap (run e room (r ∷ before)) (sym (o .is-rest))
-                    ∙ ap (λ (q : Piece). run e room (recOf e before q ∷ before) (t .rest)) (sym (o .is-piece))
-                    ∙ sym (ap (λ f. afterLine before f later) b) ∙ on;
-                few = omega (arith, h .sums .count, n);
-                close = omega (arith, h .close, o .short);
-                ahead = λ m q.
-                    ap (behind m) (moved ∙ sym (drop-drop 2 (length line) (drop (st .at) file))) ∙ h .ahead (suc m) (omega (arith, q));
-                third = third-next r refl refl;
+                sums = sums-next (h .sums) (r .kind) (o .stands) line (line-is file (st .at)) (small (h .sums) (all .say)) say-next;
+                rest = ap (λ s. run e room (r ∷ before) (pieces s)) moved ∙ ap (run e room (r ∷ before)) (sym (o .whole .is-rest))
+                    ∙ ap (λ (q : Piece). run e room (recOf e before q ∷ before) (t .rest)) (sym (o .whole .is-piece)) ∙ on b;
+                few = omega (arith, h .sums .count, o .fewer);
+                close = omega (arith, h .close, o .whole .short);
+                came = moved ∙ sym (drop-drop 2 (length line) (drop (st .at) file)) ∙ ap behindLine (h .came)
+                    ∙ ap (λ n. behind n file) (sym (add-one (st .count)));
               };
             }
 
-        went-on : On r′
+        went-on : On (readAs (h .sums))
         unfolding orElse given
         went-on =
             record {
-              fits = safe;
-              refuses = λ n f q. broken n f _ (breach-is ∙ ap (λ x. orElse x (given 7 0 (ltb room (suc (length before))))) q)
-                  (answer-is e file st past before (h .sums) n f);
+              fits = record {
+                kind = small (h .sums) (all .say);
+                outer = held-few (h .sums) (kd (h .sums)) (o .stands);
+                short = o .whole .short;
+                safe = record { fewer = omega (arith, o .fewer, h .sums .count); near = near };
+              };
+              refuses = λ n f q. broken n f _ (breach-is q) (answer-is (h .sums) n f);
               full = λ q l. broken 7 0 _
-                  (breach-is ∙ ap (λ x. orElse x (given 7 0 (ltb room (suc (length before))))) q
-                  ∙ ap (given 7 0) (lt-ltb room (suc (length before)) (omega (arith, l, h .sums .count))))
-                  (answer-is e file st past before (h .sums) 7 0);
-              goes = λ q l. more
-                  (breach-is ∙ ap (λ x. orElse x (given 7 0 (ltb room (suc (length before))))) q
-                  ∙ ap (given 7 0) (le-ltb room (suc (length before)) (omega (arith, l, h .sums .count))));
+                  (breach-is q ∙ ap (given 7 0) (lt-ltb room (suc (length before)) (omega (arith, l, h .sums .count))))
+                  (answer-is (h .sums) 7 0);
+              goes = λ q l. more (breach-is q ∙ ap (given 7 0) (le-ltb room (suc (length before)) (omega (arith, l, h .sums .count))));
             }
 
       on-step : Step s
       unfolding orElse
       on-step = go (first early (here e room before p)) refl (t .outcome)
         where
-          go : (f : Found) → first early (here e room before p) ≡ f → Outcome e below file st before p (t .rest) s f → Step s
-          go keeps q o =
-              subst Step (sym (o .is-went)) (record { stops = λ d. absurd (true≢false (sym d)); goes = λ _. went-on q o })
-          go (breaks n f) q o =
-              stopped s (o .stopped)
-              (broken n f (s .answer)
-              (last-parts before p
-              ∙ ap (λ f. orElse (orElse f (lookRule e before (p .body) (kindOfLine e (p .body)))) (given 7 0 (ltb room (suc (length before))))) q)
-              (o .answer))
+          go : (f : Found) → first early (here e room before p) ≡ f → Outcome (h .sums) p (t .rest) s f → Step s
+          go keeps q o = subst Step (sym (o .is-went)) (record { stops = λ d. absurd (true≢false (sym d)); goes = λ _. went-on q o })
+          go (breaks n f) q o = stopped s (o .stopped) (broken n f (s .answer) (last-parts e room before p q) (o .answer))
 
     pub step : Step (turnOf names rows below file st)
     unfolding turnOf
-    step = go (leb (length file) (st .at)) refl
-      where
-        go : (t : Bool) → leb (length file) (st .at) ≡ t → Step (turnOf names rows below file st)
-        go true q = rw q (end-step (leb-true (length file) (st .at) q))
-        go false q =
-            on-step (turnOf names rows below file st)
-            (turned e (all .sound) names rows (all .say) below file st past before (h .sums) say-below room (leb-false (length file) (st .at) q))
+    step =
+        by-answer (leb (length file) (st .at))
+        (λ q. rw q (end-step (leb-true (length file) (st .at) q) (st .done) refl))
+        (λ q. on-step (turnOf names rows below file st) (turned (h .sums) (all .say) room (leb-false (length file) (st .at) q)))
+
+-- The invariant of the loop: the state, and the table with those entries of the lines before that it holds whole.
+
+-- a table with those entries of the lines before in front that it holds whole
+abbrev entriesIn : List ℕ → List Rec → List ℕ
+entriesIn first before = withEntries (take (length first / numbersAnEntry) (tableOf before)) first
+
+pub record Held (e : Edition) (below : List (List ℕ)) (file : Text) (room : ℕ) (first t : List ℕ) (st : State) (past : Past) : Type 0 where
+  pub before : List Rec
+  pub reading : Reading e below file room st past before
+  pub table : t ≡ entriesIn first before
+
+pub held-start : {e : Edition} {below : List (List ℕ)} {file : Text} {room : ℕ} {first : List ℕ} {st : State} {past : Past} → Sound e
+    → st ≡ startState → past ≡ startPast → Held e below file room first first st past
+unfolding tableOf withEntries numbersOf
+held-start {first} sound q p =
+    rw (q, p) (record { before = []; reading = reading-start sound; table = rw (take-nil (length first / numbersAnEntry)) })
+
+module _ {e : Edition} {below : List (List ℕ)} {file : Text} {room : ℕ} {first t : List ℕ} {st : State} {past : Past}
+    (h : Held e below file room first t st past) where
+  pub same-length : length t ≡ length first
+  same-length = ap length (h .table) ∙ held-length first (tableOf (h .before))
+
+  -- where the turn stops, or what it has read is refused, the answer is the verdict and the table is left as it is
+  pub answered : (a : Answer) → Stops (verdict e file room) (h .before) a
+      → (a ≡ answerOf (verdict e file room)) × (t ≡ tableWithin (verdict e file room) first)
+  unfolding tableWithin
+  answered a w = (w .answer, h .table ∙ ap (λ es. withEntries (take (length first / numbersAnEntry) es) first) (sym (w .table)))
+
+  pub turn-step : {names rows : List ℕ} → SayAll e names rows below file → (s : Stepped) → s ≡ turnOf names rows below file st
+      → Step (h .reading) s
+  turn-step all s q = subst (Step (h .reading)) (sym q) (step (h .reading) all)
+
+  pub held-next : (r : Record) → Goes (h .reading) r
+      → Held e below file room first (putEntry t (st .count) (entryNumbers (entryOfCode (entryOf st r))))
+      (stateAfter st (r .kind) (r .outer) (r .len)) (pastAfter past (r .kind) (above (st .path .lines) (r .outer)) (st .at) (r .len))
+  unfolding tableOf
+  held-next r g =
+      record {
+        before = g .rec ∷ h .before;
+        reading = g .reading;
+        table =
+            ap₂ (λ a n. putEntry a n (entryNumbers (entryOfCode (entryOf st r)))) (h .table)
+            (h .reading .sums .count ∙ sym (table-length (h .before)))
+            ∙ ap (λ x. putEntry (entriesIn first (h .before)) (length (tableOf (h .before))) (entryNumbers x)) (g .entry)
+            ∙ put-next first (tableOf (h .before)) (entryAfter (g .rec) (h .before));
+      }

@@ -1,16 +1,14 @@
 -- Entries in front of a table, and one more behind them.
-use Prim.Native.Nat.{ℕ, suc, _+_, _*_, _/_, _≤_, _<_}
+use Prim.Native.Nat.{ℕ, _+_, _*_, _/_, _≤_, _<_}
 use mathlib.Core.Path.{_≡_, refl, sym, ap, ap₂, _∙_}
-use mathlib.Core.Bool.{Bool, true, false}
-use mathlib.Core.List.{List, [], _∷_, _++_, append-assoc}
+use mathlib.Core.List.{List, [], _∷_, _++_}
 use native.Mathlib.Omega.{arith}
-use lib.Dec.{ltb}
 use lib.ListN.{length, take, drop, length-append, length-take}
-use lib.Seq.{sets, sets-eq, take-at, drop-at, drop-drop, take-all, take-append-le, length-front, length-take-le}
-use borrow.Author.Tests.{lt-ltb, le-ltb, ltb-true, ltb-false}
-use Rattle.dirf.specs.Bytes.{if_then_else_}
+use lib.Seq.{sets-eq, take-append-seam, drop-append-add, drop-drop, take-all, take-append-le, length-front, length-take-le}
+use borrow.Author.Tests.{lt-ltb, le-ltb}
 use Rattle.dirf.specs.Limits.{numbersAnEntry}
 use Rattle.dirf.specs.Check.{Entry, entryNumbers, numbersOf, Verdict}
+use Rattle.dirf.proofs.Says.{below-or}
 use Rattle.checker.specs.Answers.{withEntries, tableWithin, tableAfter, putEntry}
 
 pub length-numbers : (es : List Entry) → length (numbersOf es) ≡ numbersAnEntry * length es
@@ -26,7 +24,9 @@ numbers-last (y ∷ es) x = ap (λ l. entryNumbers y ++ l) (numbers-last es x)
 module _ (t : List ℕ) (es : List Entry) (fits : numbersAnEntry * length es ≤ length t) where
   pub with-length : length (withEntries es t) ≡ length t
   unfolding withEntries
-  with-length = length-front t (numbersOf es) (length (numbersOf es)) (sym (length-take-le (length (numbersOf es)) t (omega (arith, length-numbers es))))
+  with-length =
+      let i : ℕ = length (numbersOf es) in
+      length-front t (numbersOf es) i (sym (length-take-le i t (omega (arith, length-numbers es))))
 
   -- one entry more, where there is room for it
   put-one : (x : Entry) → length es < length t / numbersAnEntry
@@ -39,9 +39,8 @@ module _ (t : List ℕ) (es : List Entry) (fits : numbersAnEntry * length es ≤
       let long : length (numbersOf es ++ entryNumbers x) ≡ i + numbersAnEntry = length-append (numbersOf es) (entryNumbers x) in
       rw (with-length, lt-ltb (length es) (length t / numbersAnEntry) room, ← n)
       (sets-eq (entryNumbers x) (numbersOf es ++ drop i t) i (omega (arith, with-length))
-      ∙ ap₂ (λ a b. a ++ entryNumbers x ++ b) (take-at (numbersOf es) (drop i t) i refl)
-      (sym (drop-drop numbersAnEntry i (numbersOf es ++ drop i t)) ∙ ap (drop numbersAnEntry) (drop-at (numbersOf es) (drop i t) i refl)
-      ∙ drop-drop numbersAnEntry i t)
+      ∙ ap₂ (λ a b. a ++ entryNumbers x ++ b) (take-append-seam (numbersOf es) (drop i t))
+      (drop-append-add (numbersOf es) (drop i t) numbersAnEntry ∙ drop-drop numbersAnEntry i t)
       ∙ rw (last, long))
 
   put-none : (c : ℕ) (row : List ℕ) → length t / numbersAnEntry ≤ c → putEntry (withEntries es t) c row ≡ withEntries es t
@@ -49,24 +48,25 @@ module _ (t : List ℕ) (es : List Entry) (fits : numbersAnEntry * length es ≤
   put-none c row full = rw (with-length, le-ltb c (length t / numbersAnEntry) full)
 
 -- of so many entries, those that a table holds whole
-pub put-next : (t : List ℕ) (es : List Entry) (x : Entry) → let m = length t / numbersAnEntry in
-    putEntry (withEntries (take m es) t) (length es) (entryNumbers x) ≡ withEntries (take m (es ++ (x ∷ []))) t
-put-next t es x = go (ltb (length es) m) refl
-  where
-    m : ℕ
-    m = length t / numbersAnEntry
+module _ (t : List ℕ) (es : List Entry) where
+  abbrev m : ℕ
+  m = length t / numbersAnEntry
 
-    go : (b : Bool) → ltb (length es) m ≡ b → putEntry (withEntries (take m es) t) (length es) (entryNumbers x) ≡ withEntries (take m (es ++ (x ∷ []))) t
-    go true b =
-        let l = ltb-true (length es) m b in
-        rw (take-all m es (omega arith), take-all m (es ++ (x ∷ [])) (simp length-append (omega arith))) (put-one t es (omega arith) x l)
-    go false b =
-        let l = ltb-false (length es) m b in
-        rw (take-append-le m es (x ∷ []) l) (put-none t (take m es) (omega (arith, length-take-le m es l)) (length es) (entryNumbers x) l)
+  pub put-next : (x : Entry)
+      → putEntry (withEntries (take m es) t) (length es) (entryNumbers x) ≡ withEntries (take m (es ++ (x ∷ []))) t
+  put-next x =
+      below-or m (length es)
+      (λ l.
+      rw (take-all m es (omega arith), take-all m (es ++ (x ∷ [])) (simp length-append (omega arith))) (put-one t es (omega arith) x l))
+      (λ l.
+      rw (take-append-le m es (x ∷ []) l) (put-none t (take m es) (omega (arith, length-take-le m es l)) (length es) (entryNumbers x) l))
+
+  pub held-length : length (withEntries (take m es) t) ≡ length t
+  held-length = with-length t (take m es) (omega (arith, length-take m es))
 
 pub within-length : (v : Verdict) (t : List ℕ) → length (tableWithin v t) ≡ length t
 unfolding tableWithin
-within-length v t = let m : ℕ = length t / numbersAnEntry in with-length t (take m (v .table)) (omega (arith, length-take m (v .table)))
+within-length v t = held-length t (v .table)
 
 -- where all of them fit, those are all
 pub all-within : (v : Verdict) (t : List ℕ) → length (v .table) ≤ length t / numbersAnEntry → tableWithin v t ≡ tableAfter v t

@@ -1,19 +1,19 @@
 -- What the check leaves behind is what specs/Left says, whatever the file and the table: told of the contract of `check`.
 use Prim.Native.Nat.{ℕ, _+_, _-_, _*_, _/_, _≤_}
 use mathlib.Core.Path.{_≡_, refl, sym, _∙_, subst}
-use mathlib.Core.List.{List, [], _∷_, _++_}
+use mathlib.Core.List.{List, _++_}
 use native.Mathlib.Omega.{arith}
 use lib.ListN.{length, getD, drop}
-use lib.Seq.{length-front, length-take-le, take-at, getD-append-add, getD-drop}
+use lib.Seq.{take-at, getD-append-add, getD-drop}
 use denote.Ref.{now}
 use Rattle.dirf.specs.Bytes.{Text}
 use Rattle.dirf.specs.Limits.{numbersAnEntry}
 use Rattle.dirf.specs.Edition.{edition2025}
-use Rattle.dirf.specs.Check.{Entry, numbersOf, Verdict, verdict}
+use Rattle.dirf.specs.Check.{numbersOf, Verdict, verdict}
 use Rattle.dirf.proofs.Demands.{demands2025}
 use Rattle.checker.specs.Answers.{answerOf, withEntries, tableAfter}
 use Rattle.checker.specs.Left.{Left}
-use Rattle.checker.proofs.Table.{length-numbers}
+use Rattle.checker.proofs.Table.{length-numbers, with-length}
 use Rattle.checker.proofs.check.Reads as check
 
 -- entries, and behind them what stood there: nothing past them is touched
@@ -39,8 +39,7 @@ left file before =
       accepted = λ q. count .when-accepted q .1 ∙ sym (count .when-accepted q .0);
       refused = count .when-refused;
       untouched = λ i h. past (numbersOf (v .table)) before i (omega (arith, long));
-      same-length = length-front before (numbersOf (v .table)) (length (numbersOf (v .table)))
-          (sym (length-take-le (length (numbersOf (v .table))) before (omega (arith, long, count .fits))));
+      same-length = with-length before (v .table) (omega (arith, count .fits));
       whose = demands2025 .whose file room;
       pointed = demands2025 .entries file room;
     }

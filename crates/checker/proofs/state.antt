@@ -1,4 +1,3 @@
-pub mod Tests
 pub mod Sums
-pub mod LookingBack
 pub mod Next
+pub mod LookingBack

@@ -58,3 +58,8 @@ Answers names rows below file room r = (e : Edition) → SayAll e names rows bel
 abbrev pub Leaves : List ℕ → List ℕ → List (List ℕ) → Text → ℕ → List ℕ → List ℕ → Type 0
 Leaves names rows below file room before after =
     (e : Edition) → SayAll e names rows below file → after ≡ tableWithin (verdict e file room) before
+
+-- both, for one edition
+pub record Judged (e : Edition) (file : Text) (room : ℕ) (before after : List ℕ) (r : Answer) : Type 0 where
+  pub answer : r ≡ answerOf (verdict e file room)
+  pub entries : after ≡ tableWithin (verdict e file room) before

@@ -52,7 +52,8 @@ foundStep st (breaks n f) s = halt st n f
 unfoldable pub lookedFound : Text → State → Record → Last → Found
 lookedFound file st r last =
     let line = partOf file (st .at) (r .len) in
-    lookFound file last (r .kind) (above (st .path .lines) (r .outer)) (partOf line (r .start2) (r .len2)) (partOf line (r .start3) (r .len3))
+    lookFound file last (r .kind) (above (st .path .lines) (r .outer))
+    (partOf line (r .start2) (r .len2)) (partOf line (r .start3) (r .len3))
 
 -- the entry of a record that is taken
 unfoldable pub entryOf : State → Record → Entry
@@ -91,7 +92,8 @@ recordStep names rows below line st p =
 unfoldable pub lineStep : List ℕ → List ℕ → List (List ℕ) → Text → State → Stepped
 lineStep names rows below file st =
     let s = drop (st .at) file in
-    if eqb (numberAt s) 0 then recordStep names rows below (partOf s 0 (length (clean s))) st (placesOf (clean s)) else halt st (numberAt s) 0
+    if eqb (numberAt s) 0 then recordStep names rows below (partOf s 0 (length (clean s))) st (placesOf (clean s))
+    else halt st (numberAt s) 0
 
 -- the end, 1, 2 and 3
 unfoldable pub turnOf : List ℕ → List ℕ → List (List ℕ) → Text → State → Stepped

@@ -19,7 +19,7 @@ ghost use Rattle.dirf.specs.Edition.{edition2025};
 ghost use Rattle.dirf.specs.Check.{entryNumbers, verdict};
 ghost use Rattle.layout.specs.Tables.{nameTable};
 ghost use Rattle.checker.specs.Lines.{thirdKind};
-ghost use Rattle.checker.specs.Answers.{answerOf, tableAfter, tableWithin, entryOfCode, putEntry, Tabled, Answers, Leaves};
+ghost use Rattle.checker.specs.Answers.{answerOf, tableAfter, entryOfCode, putEntry, Tabled, Answers, Leaves, Judged};
 
 // Document 01: "The table has four 32-bit numbers a record".
 pub const NUMBERS_AN_ENTRY: usize = 4;
@@ -116,11 +116,11 @@ fn walk(
     }
 }
 
-// A file whose line 3 is a DECPF, and any other. Each makes its own tables: of two calls the compiler keeps one function, with its own stack.
+// A file whose line 3 is a DECPF, and any other. Each makes its own tables: of two calls the compiler keeps one function, with its own
+// stack.
 fn walk_pf(names: &[u8; NAME_BYTES], file: &[u8], room: usize, table: &mut [u32]) -> Answer
     requires { ⌜ (now names ≡ nameTable edition2025) × (thirdKind (now names) (now file) ≡ DECPF) ⌝ }
-    ensures answer { λ r. ⌜ r ≡ answerOf (verdict edition2025 (now (file .entry)) room) ⌝ }
-    ensures entries { λ r. ⌜ now (table .exit) ≡ tableWithin (verdict edition2025 (now (file .entry)) room) (now (table .entry)) ⌝ }
+    ensures { λ r. ⌜ Judged edition2025 (now (file .entry)) room (now (table .entry)) (now (table .exit)) r ⌝ }
 {
     let rows = layout::row_table();
     let below = layout::pf_table();
@@ -129,8 +129,7 @@ fn walk_pf(names: &[u8; NAME_BYTES], file: &[u8], room: usize, table: &mut [u32]
 
 fn walk_pj(names: &[u8; NAME_BYTES], file: &[u8], room: usize, table: &mut [u32]) -> Answer
     requires { ⌜ (now names ≡ nameTable edition2025) × (thirdKind (now names) (now file) ≡ DECPF → ⊥) ⌝ }
-    ensures answer { λ r. ⌜ r ≡ answerOf (verdict edition2025 (now (file .entry)) room) ⌝ }
-    ensures entries { λ r. ⌜ now (table .exit) ≡ tableWithin (verdict edition2025 (now (file .entry)) room) (now (table .entry)) ⌝ }
+    ensures { λ r. ⌜ Judged edition2025 (now (file .entry)) room (now (table .entry)) (now (table .exit)) r ⌝ }
 {
     let rows = layout::row_table();
     let below = layout::pj_table();
@@ -139,8 +138,7 @@ fn walk_pj(names: &[u8; NAME_BYTES], file: &[u8], room: usize, table: &mut [u32]
 
 // With the tables of 2025, and that of the declarant alone of the two.
 fn judged(file: &[u8], room: usize, table: &mut [u32]) -> Answer
-    ensures answer { λ r. ⌜ r ≡ answerOf (verdict edition2025 (now (file .entry)) room) ⌝ }
-    ensures entries { λ r. ⌜ now (table .exit) ≡ tableWithin (verdict edition2025 (now (file .entry)) room) (now (table .entry)) ⌝ }
+    ensures { λ r. ⌜ Judged edition2025 (now (file .entry)) room (now (table .entry)) (now (table .exit)) r ⌝ }
 {
     let names = layout::name_table();
     if third_kind(&names, file) == 3 {

@@ -16,7 +16,8 @@ ghost use Rattle.dirf.specs.Limits.{linesLimit};
 ghost use Rattle.layout.specs.Tables.{kinds};
 ghost use Rattle.rules.specs.Findings.{findingOf};
 ghost use Rattle.checker.specs.State.{deepest, Near, Safe};
-ghost use Rattle.checker.specs.Turn.{refusedAt, haltAt, halt, went, lookedFound, entryOf, Fits, filledFound, recordOf, readStep, recordStep, lineStep, turnOf};
+ghost use Rattle.checker.specs.Turn.{refusedAt, haltAt, halt, went, lookedFound, entryOf, Fits, filledFound, recordOf};
+ghost use Rattle.checker.specs.Turn.{readStep, recordStep, lineStep, turnOf};
 
 // Document 01: "At most 65,536 lines."
 const LINES: u32 = 65536;
@@ -161,7 +162,8 @@ fn record_of(
     p: Places,
 ) -> Record
     requires { ⌜ st .path .depth ≤ deepest ⌝ }
-    ensures { λ r. ⌜ (r ≡ recordOf (now (names .entry)) (now (below .entry)) (now (line .entry)) st p) × ((r .kind < kinds) × (r .outer ≤ deepest)) ⌝ }
+    ensures { λ r. ⌜ (r ≡ recordOf (now (names .entry)) (now (below .entry)) (now (line .entry)) st p)
+        × ((r .kind < kinds) × (r .outer ≤ deepest)) ⌝ }
 {
     let k = layout::kind_of(names, fields::field(line, 1));
     Record {

@@ -3,7 +3,7 @@
 use Prim.Native.Nat.{ℕ, _≤_}
 use mathlib.Core.Path.{_≡_, refl, sym, ap, _∙_, subst}
 use mathlib.Core.Bool.{true}
-use mathlib.Core.Logic.{_↔_, ⊎-elim}
+use mathlib.Core.Logic.{_↔_}
 use mathlib.Core.List.{List, []}
 use lib.Dec.{leb}
 use borrow.Author.Tests.{leb-true}
@@ -20,7 +20,7 @@ use Rattle.dirf.specs.Check.{Verdict, refused, accepted, noBytesLeft, ve
 use Rattle.dirf.specs.Theorems.Sound.{Sound}
 use Rattle.dirf.specs.Theorems.Answered.{recs, Right, LinesRight, Closed, Accepted, FirstBroken, Answer, accepts, unclosed, refuses}
 use Rattle.dirf.specs.Theorems.Answered.{Answered, Only, AcceptedExactly}
-use Rattle.dirf.proofs.Bools.{true-or-false}
+use Rattle.dirf.proofs.Bools.{by-answer}
 use Rattle.dirf.proofs.Says.{denies}
 use Rattle.dirf.proofs.Lists.{every-in}
 use Rattle.dirf.proofs.Asked.{numbersPass, given-number}
@@ -73,9 +73,8 @@ module _ (e : Edition) (sound : Sound e) where
           let all = recs e [] (pieces file) in
           let l = lines-right room (pieces file) .0 k in
           rw (kept-verdict e room file k)
-          (⊎-elim (λ q. let c = closed-says all .0 q in rw (shut-ends all c) (accepts (record { lines = l; shut = c })))
-          (λ q. let c = denies (closed all) (closed-says all) .0 q in rw (open-ends all c) (unclosed l c))
-          (true-or-false (closed all)))
+          (by-answer (closed all) (λ q. let c = closed-says all .0 q in rw (shut-ends all c) (accepts (record { lines = l; shut = c })))
+          (λ q. let c = denies (closed all) (closed-says all) .0 q in rw (open-ends all c) (unclosed l c)))
       go (stops os p qs n f s k b) =
           rw (stops-verdict e room file os p qs n f s k b) (refuses os p qs n f s (lines-right room os .0 k) b)
 

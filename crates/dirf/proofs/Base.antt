@@ -2,7 +2,6 @@
 use Prim.Native.Nat.{ℕ, _≤_}
 use mathlib.Core.Path.{_≡_, refl, sym, ap, _∙_}
 use mathlib.Core.Bool.{true, false, not, or-true, false≢true, true≢false}
-use mathlib.Core.Logic.{⊎-elim}
 use mathlib.Core.List.{List, [], _∷_, map, Memᴰ·cast, Memᴰ·map}
 use native.Mathlib.Omega.{arith}
 use lib.Dec.{eqb, leb}
@@ -14,7 +13,7 @@ use Rattle.dirf.specs.Row.{Row, obligatory, identifier}
 use Rattle.dirf.specs.Edition.{Edition, kindIn, kindOf, nameOf, rowsIn, rowsOf, isBase}
 use Rattle.dirf.specs.Theorems.Plain.{_∈_}
 use Rattle.dirf.specs.Theorems.Sound.{firstOf, Sound}
-use Rattle.dirf.proofs.Bools.{and-left, and-right, if-cases, true-or-false}
+use Rattle.dirf.proofs.Bools.{and-left, and-right, if-cases, by-answer}
 use Rattle.dirf.proofs.Says.{it, on}
 use Rattle.dirf.proofs.Lists.{every-in}
 
@@ -35,8 +34,8 @@ lookup-in : (ns : List (ℕ × Text)) (k : ℕ) → some (λ n. eqb k (n .0)) ns
 unfolding some lookup
 lookup-in [] k e = absurd (true≢false (sym e))
 lookup-in (x ∷ ns) k e =
-    ⊎-elim (λ q. (x, it, eqb-true k (x .0) q, rw q))
-    (λ q. let h = lookup-in ns k (rw q at e) in (h .0, on (h .1), h .2, rw q (h .3))) (true-or-false (eqb k (x .0)))
+    by-answer (eqb k (x .0)) (λ q. (x, it, eqb-true k (x .0) q, rw q))
+    (λ q. let h = lookup-in ns k (rw q at e) in (h .0, on (h .1), h .2, rw q (h .3)))
 
 module _ (e : Edition) (k : ℕ) (base : isBase e k ≡ true) where
   pub base-not-later : isLater k ≡ false
@@ -58,15 +57,14 @@ module _ (e : Edition) (k : ℕ) (base : isBase e k ≡ true) where
   pub base-laid-out : Sound e → 1 ≤ length (rowsOf e k)
   base-laid-out sound =
       let laid = every-in _ (Memᴰ·cast (base-name .2) (Memᴰ·map (λ n. n .0) (base-name .1))) (sound .kinds .laidOut) in
-      ⊎-elim (λ p. leb-true 1 (length (rowsOf e k)) p) (λ p. absurd (false≢true (rw p at (rw base at laid))))
-      (true-or-false (leb 1 (length (rowsOf e k))))
+      by-answer (leb 1 (length (rowsOf e k))) (λ p. leb-true 1 (length (rowsOf e k)) p) (λ p. absurd (false≢true (rw p at (rw base at laid))))
 
 first-in : (gs : List (List ℕ × List Row)) (k : ℕ) → map (λ g. firstOf (g .1)) gs ≡ map (λ g. (obligatory, identifier)) gs
     → 1 ≤ length (rowsIn gs k) → firstOf (rowsIn gs k) ≡ (obligatory, identifier)
 unfolding rowsIn
 first-in [] k e h = absurd (omega arith)
 first-in (g ∷ gs) k e h =
-    ⊎-elim (λ q. rw q (cc)) (λ q. rw q (first-in gs k (cc) (rw q at h))) (true-or-false (isIn k (g .0)))
+    by-answer (isIn k (g .0)) (λ q. rw q (cc)) (λ q. rw q (first-in gs k (cc) (rw q at h)))
 
 pub base-identifier-first : (e : Edition) (k : ℕ) → isBase e k ≡ true → Sound e → firstOf (rowsOf e k) ≡ (obligatory, identifier)
 unfolding rowsOf

@@ -21,10 +21,10 @@ pub if-cases : {A : Type 0} (P : A → Type 0) (t : Bool) {a b : A} → (t ≡ t
 if-cases P true f g = f refl
 if-cases P false f g = g refl
 
--- a test by its answer: with `⊎-elim`, a case for each
-pub true-or-false : (t : Bool) → (t ≡ true) ⊎ (t ≡ false)
-true-or-false true = inl refl
-true-or-false false = inr refl
+-- a proof by the answer of a test
+pub by-answer : {P : Type 0} (t : Bool) → (t ≡ true → P) → (t ≡ false → P) → P
+by-answer true f g = f refl
+by-answer false f g = g refl
 
 pub unless-true : (b : Bool) → (b ≡ true → ⊥) → b ≡ false
 unless-true true h = absurd (h refl)

@@ -10,7 +10,7 @@ use Rattle.dirf.specs.Limits.{CR, LF}
 use Rattle.dirf.specs.Lines.{isLineEnd, clean, unclean}
 use Rattle.dirf.specs.Order.{nothingOrCR}
 use Rattle.dirf.specs.Theorems.Plain.{_∈_, NoLineEnd}
-use Rattle.dirf.proofs.Bools.{if-cases, true-or-false}
+use Rattle.dirf.proofs.Bools.{if-cases, by-answer}
 use Rattle.dirf.proofs.Says.{Says, never, says-or, says-by, says-not, denies, eqb-says, empty-says, it, on}
 use lib.Dec.{eqb}
 
@@ -40,7 +40,7 @@ clean-none (b ∷ s) =
 pub clean-unclean : (s : Text) → s ≡ clean s ++ unclean s
 unfolding clean unclean
 clean-unclean [] = refl
-clean-unclean (b ∷ s) = ⊎-elim (λ e. rw e) (λ e. rw e (ap (λ l. b ∷ l) (clean-unclean s))) (true-or-false (isLineEnd b))
+clean-unclean (b ∷ s) = by-answer (isLineEnd b) (λ e. rw e) (λ e. rw e (ap (λ l. b ∷ l) (clean-unclean s)))
 
 pub clean-front : (a b : Text) → NoLineEnd a → clean (a ++ b) ≡ a ++ clean b
 unfolding clean
@@ -69,8 +69,8 @@ pub unclean-begins : (s : Text) (b : ℕ) (t : Text) → unclean s ≡ b ∷ t �
 unfolding unclean
 unclean-begins [] b t e = absurd (nil≢cons e)
 unclean-begins (x ∷ s) b t e =
-    ⊎-elim (λ q. lineEnd-says b .0 (ap isLineEnd (sym (head-eq-of-cons-eq (rw q at e))) ∙ q))
-    (λ q. unclean-begins s b t (rw q at e)) (true-or-false (isLineEnd x))
+    by-answer (isLineEnd x) (λ q. lineEnd-says b .0 (ap isLineEnd (sym (head-eq-of-cons-eq (rw q at e))) ∙ q))
+    (λ q. unclean-begins s b t (rw q at e))
 
 nothing-or-CR-says : (u : Text) → Says (nothingOrCR u) ((u ≡ []) ⊎ (u ≡ 13 ∷ []))
 unfolding nothingOrCR

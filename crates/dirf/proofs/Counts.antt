@@ -2,7 +2,6 @@
 use Prim.Native.Nat.{ℕ, suc, _≤_, _<_}
 use mathlib.Core.Path.{_≡_, refl, ap, _∙_}
 use mathlib.Core.Bool.{true}
-use mathlib.Core.Logic.{⊎-elim}
 use mathlib.Core.List.{List, [], _∷_}
 use native.Mathlib.Omega.{arith}
 use native.Mathlib.Nat.{zero-add}
@@ -19,7 +18,7 @@ use Rattle.dirf.specs.Theorems.Sound.{Sound}
 use Rattle.dirf.specs.Theorems.Answered.{recs, Right, Answer, accepts, unclosed, refuses}
 use Rattle.dirf.specs.Theorems.GoodSoFar.{lineEnds}
 use Rattle.dirf.specs.Theorems.Counts.{Counted, Counts}
-use Rattle.dirf.proofs.Bools.{true-or-false}
+use Rattle.dirf.proofs.Bools.{by-answer}
 use Rattle.dirf.proofs.CleanLaws.{nothing-unclean, stray-says}
 use Rattle.dirf.proofs.History.{table-length}
 use Rattle.dirf.proofs.RunLaws.{Kept, length-recs}
@@ -33,13 +32,11 @@ module _ (e : Edition) (sound : Sound e) (room : ℕ) where
   unfolding here
   line-ended before p k =
       let right : Right (here e room before p) = right-exactly e sound room before p .0 k in
-      ⊎-elim (λ q. q)
+      by-answer (p .ended) (λ q. q)
       (λ q.
-      absurd (⊎-elim
+      absurd (by-answer (isEmpty (unclean (p .body)))
       (λ z. right 5 0 (ends q (nothing-unclean (p .body) .0 (empty-says (unclean (p .body)) .0 z))))
-      (λ z. let b = stray-says (p .body) .0 (rw z) in right 6 0 (stray (b .0) (b .1) (b .2)))
-      (true-or-false (isEmpty (unclean (p .body))))))
-      (true-or-false (p .ended))
+      (λ z. let b = stray-says (p .body) .0 (rw z) in right 6 0 (stray (b .0) (b .1) (b .2)))))
 
   pub all-ended : (before : List Rec) (ps : List Piece) → Kept e room before ps → AllEnded ps
   all-ended before [] k = tt

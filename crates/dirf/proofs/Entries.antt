@@ -2,7 +2,6 @@
 use Prim.Native.Nat.{ℕ, zero, suc, _+_, _≤_, _<_}
 use mathlib.Core.Path.{_≡_, refl, sym, ap, _∙_, subst}
 use mathlib.Core.Bool.{Bool, true, false, _&&_}
-use mathlib.Core.Logic.{⊎-elim}
 use mathlib.Core.List.{List, [], _∷_, _++_, append-assoc, append-nil}
 use native.Mathlib.Omega.{arith}
 use native.Mathlib.Nat.{zero-add}
@@ -21,7 +20,7 @@ use Rattle.dirf.specs.Theorems.Sound.{Sound}
 use Rattle.dirf.specs.Theorems.Answered.{recs, LinesRight, Answer, accepts, unclosed, refuses}
 use Rattle.dirf.specs.Theorems.Whose.{entryAt, IsLine}
 use Rattle.dirf.specs.Theorems.Entries.{startAt, lengthAt, bytesAt, Pointed, Entries}
-use Rattle.dirf.proofs.Bools.{and-left, and-right, true-or-false}
+use Rattle.dirf.proofs.Bools.{and-left, and-right, by-answer}
 use Rattle.dirf.proofs.History.{table-length, entry-last, entry-earlier, line-cases}
 use Rattle.dirf.proofs.RunLaws.{recs-append, length-recs}
 use Rattle.dirf.proofs.WholeLaws.{AllEnded}
@@ -47,13 +46,12 @@ unfolding pieces push textOf endOf
 text-pieces [] = refl
 text-pieces (b ∷ []) = refl
 text-pieces (b ∷ c ∷ s) =
-    ⊎-elim
+    by-answer (eqb b CR && eqb c LF)
     (λ q.
     let e : b ≡ CR = eqb-true b CR (and-left (eqb b CR) (eqb c LF) q) in
     let f : c ≡ LF = eqb-true c LF (and-right (eqb b CR) (eqb c LF) q) in
     rw q (cc (text-pieces s)))
     (λ q. rw q (text-push b (pieces (c ∷ s)) ∙ ap (λ l. b ∷ l) (text-pieces (c ∷ s))))
-    (true-or-false (eqb b CR && eqb c LF))
 
 text-append : (ps qs : List Piece) → textOf (ps ++ qs) ≡ textOf ps ++ textOf qs
 unfolding textOf

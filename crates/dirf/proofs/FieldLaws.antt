@@ -16,7 +16,7 @@ use Rattle.dirf.specs.Fields.{isObligatory, rightByte, fillsTo, sizeHeld
 use Rattle.dirf.specs.Fields.{byteOfTheWrongKind, wrongSize, zeroInFront, noSuchDate, notAValidValue}
 use Rattle.dirf.specs.Theorems.Plain.{_∈_, RightByte, Fills, SizeHeld, TakesNoZero, an-amount, a-month-count, a-ddd, Valid, Leap}
 use Rattle.dirf.specs.Theorems.Plain.{InMonth, long-month, short-month, february, leap-february, Date}
-use Rattle.dirf.proofs.Bools.{true-or-false, if-cases}
+use Rattle.dirf.proofs.Bools.{by-answer, if-cases}
 use Rattle.dirf.proofs.Says.{Says, always, never, says-not, says-by, denies, says, eqb-says, leb-says, it, on, some-says, every-says}
 use Rattle.dirf.proofs.Lists.{every-in}
 use Rattle.dirf.proofs.Says.{digit-says, two-says, same-says, begins-says}
@@ -81,7 +81,7 @@ unfolding daysIn
 month-of y zero d a b = absurd (omega arith)
 month-of y (suc zero) d a b = long-month (search it depth 20) b
 month-of y (suc (suc zero)) d a b =
-    ⊎-elim (λ e. leap-february refl (leap-says y .0 e) (rw e at b)) (λ e. february refl (rw e at b)) (true-or-false (isLeap y))
+    by-answer (isLeap y) (λ e. leap-february refl (leap-says y .0 e) (rw e at b)) (λ e. february refl (rw e at b))
 month-of y (suc (suc (suc zero))) d a b = long-month (search (it, on) depth 20) b
 month-of y (suc (suc (suc (suc zero)))) d a b = short-month (search it depth 20) b
 month-of y (suc (suc (suc (suc (suc zero))))) d a b = long-month (search (it, on) depth 20) b
@@ -120,7 +120,7 @@ one-fails : (test : ℕ → Bool) (s : Text) → every test s ≡ false → (b :
 unfolding every
 one-fails test [] e = absurd (true≢false e)
 one-fails test (b ∷ s) e =
-    ⊎-elim (λ q. let h = one-fails test s (rw q at e) in (h .0, on (h .1), h .2)) (λ q. (b, it, q)) (true-or-false (test b))
+    by-answer (test b) (λ q. let h = one-fails test s (rw q at e) in (h .0, on (h .1), h .2)) (λ q. (b, it, q))
 
 -- each rule of a field, asked of the record's identifier, the row and the bytes
 module _ (name : Text) (r : Row) (s : Text) where

@@ -2,7 +2,6 @@
 use Prim.Native.Nat.{ℕ, zero, suc, _+_, _-_, _≤_}
 use mathlib.Core.Path.{_≡_, refl, sym, ap, _∙_}
 use mathlib.Core.Bool.{true, false, false≢true}
-use mathlib.Core.Logic.{⊎-elim}
 use mathlib.Core.List.{[], _∷_, _++_, append-assoc, append-nil}
 use native.Mathlib.Omega.{arith}
 use lib.Dec.{leb}
@@ -15,7 +14,7 @@ use Rattle.dirf.specs.Lines.{fields, field}
 use Rattle.dirf.specs.FieldReader.{fieldThere, fieldOf, fieldStart, fieldLength}
 use Rattle.dirf.specs.LineWriter.{joined}
 use Rattle.dirf.specs.Theorems.ThereAndBack.{FieldPlaced}
-use Rattle.dirf.proofs.Bools.{and-right, true-or-false}
+use Rattle.dirf.proofs.Bools.{and-right, by-answer}
 use Rattle.dirf.proofs.Bars.{rejoined, length-joined, joined-append}
 
 -- a part c of a line from byte `start` on: its bytes stand there, inside the line
@@ -49,7 +48,6 @@ pub field-placed : (k : ℕ) (line : Text) → FieldPlaced k line
 unfolding fieldLength
 field-placed k line =
     let place : Part line (fieldOf k line) (fieldStart k line) =
-    ⊎-elim (somewhere k line)
-    (λ e. let n = nowhere k line e in rw (n .0, n .1) (part line [] [] (length line) (sym (append-nil line)) refl))
-    (true-or-false (fieldThere k line)) in
+    by-answer (fieldThere k line) (somewhere k line)
+    (λ e. let n = nowhere k line e in rw (n .0, n .1) (part line [] [] (length line) (sym (append-nil line)) refl)) in
     record { bytes = place .0; inside = place .1; nowhere = λ e. (nowhere k line e .0, ap length (nowhere k line e .1)) }

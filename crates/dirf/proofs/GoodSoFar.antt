@@ -2,7 +2,7 @@
 use Prim.Native.Nat.{ℕ, zero, suc, _+_, _-_, _≤_, _<_}
 use mathlib.Core.Path.{_≡_, refl, sym, ap, _∙_, subst}
 use mathlib.Core.Bool.{false}
-use mathlib.Core.Logic.{_≢_, inl, inr, ⊎-elim}
+use mathlib.Core.Logic.{_≢_, inl, inr}
 use mathlib.Core.List.{List, [], _∷_, _++_, append-assoc}
 use native.Mathlib.Omega.{arith}
 use native.Mathlib.Nat.{zero-add}
@@ -22,7 +22,7 @@ use Rattle.dirf.specs.Theorems.Breach.{stray}
 use Rattle.dirf.specs.Theorems.Sound.{Closable, Sound}
 use Rattle.dirf.specs.Theorems.Answered.{recs, Closed, Accepted, FirstBroken}
 use Rattle.dirf.specs.Theorems.GoodSoFar.{Whole, empty, ends-in-CR-LF, lineEnds, Unfinished, GoodSoFar, GoodUpToHere}
-use Rattle.dirf.proofs.Bools.{if-cases, true-or-false}
+use Rattle.dirf.proofs.Bools.{if-cases, by-answer}
 use Rattle.dirf.proofs.TestsSay.{closed-says}
 use Rattle.dirf.proofs.RunLaws.{Kept, Fate, passes, stops, fate, kept-verdict, stops-verdict, kept-append, recs-append, length-recs}
 use Rattle.dirf.proofs.WholeLaws.{pieces-append, line-count, whole-ended, line-piece}
@@ -140,8 +140,8 @@ module _ (e : Edition) (sound : Sound e) (room : ℕ) where
       let count = length-recs e [] (pieces s) ∙ zero-add (length (pieces s)) ∙ line-count s (whole-ended (u .whole)) in
       let low : verdict e s room .number ≤ 1 = rw (kept-verdict e room s k) (ends-low before) in
       let t : Closes e room before 4 =
-      ⊎-elim (λ q. nothing-closes before 4 (closed-says before .0 q))
-      (λ q. closes before q (omega (arith, count, u .few)) (omega (arith, count, u .roomy))) (true-or-false (closed before)) in
+      by-answer (closed before) (λ q. nothing-closes before 4 (closed-says before .0 q))
+      (λ q. closes before q (omega (arith, count, u .few)) (omega (arith, count, u .roomy))) in
       record {
         can = λ _. (t .text, t .is-whole, t .few, accepted-after s (t .text) (u .whole) k (t .kept) (t .shut));
         only-then = λ t a. low;

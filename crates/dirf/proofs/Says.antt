@@ -9,7 +9,7 @@ use native.Mathlib.Omega.{arith}
 use lib.Dec.{eqb, ltb, leb}
 use borrow.Author.Tests.{eqb-true, eq-eqb, leb-true, le-leb, ltb-true, ltb-false, lt-ltb}
 use Rattle.dirf.specs.Bytes.{if_then_else_, Text, every, some, isIn, same, less, isDigit, isEmpty, beginsWith, endsWith}
-use Rattle.dirf.proofs.Bools.{true-or-false}
+use Rattle.dirf.proofs.Bools.{by-answer}
 use Rattle.dirf.specs.Theorems.Plain.{_∈_, Smaller, beginning, at-byte}
 
 -- a test says P: it is true exactly when P holds
@@ -64,7 +64,7 @@ ltb-says a b = (ltb-true a b, lt-ltb a b)
 
 -- below a number, or from it on
 pub below-or : {P : Type 0} (n k : ℕ) → (k < n → P) → (n ≤ k → P) → P
-below-or n k under past = ⊎-elim (λ e. under (ltb-true k n e)) (λ e. past (ltb-false k n e)) (true-or-false (ltb k n))
+below-or n k under past = by-answer (ltb k n) (λ e. under (ltb-true k n e)) (λ e. past (ltb-false k n e))
 
 pub it : {A : Type 0} {x : A} {xs : List A} → x ∈ (x ∷ xs)
 it = List·Memᴰ·head refl

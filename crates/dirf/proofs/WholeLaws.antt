@@ -2,7 +2,7 @@
 use Prim.Native.Nat.{ℕ, suc, _≤_}
 use mathlib.Core.Path.{_≡_, refl, ap, _∙_}
 use mathlib.Core.Bool.{true, false, _&&_, false≢true, and-false}
-use mathlib.Core.Logic.{_≢_, ⊎-elim}
+use mathlib.Core.Logic.{_≢_}
 use mathlib.Core.List.{List, [], _∷_, _++_, append-nil}
 use native.Mathlib.Omega.{arith}
 use native.Mathlib.Nat.{not-suc-le-zero}
@@ -14,7 +14,7 @@ use Rattle.dirf.specs.Limits.{CR, LF, lineEnd}
 use Rattle.dirf.specs.Lines.{Piece, push, pieces}
 use Rattle.dirf.specs.Theorems.Plain.{NoLineEnd}
 use Rattle.dirf.specs.Theorems.GoodSoFar.{Whole, empty, ends-in-CR-LF, lineEnds}
-use Rattle.dirf.proofs.Bools.{if-cases, true-or-false}
+use Rattle.dirf.proofs.Bools.{if-cases, by-answer}
 use Rattle.dirf.proofs.Says.{it, on}
 
 abbrev pub AllEnded : List Piece → Type 0
@@ -34,11 +34,10 @@ unfolding pieces push
 pieces-append [] b h = refl
 pieces-append (x ∷ []) b h = absurd (false≢true (h .0))
 pieces-append (x ∷ y ∷ s) b h =
-    ⊎-elim (λ q. rw q (ap (λ ps. emptyLine ∷ ps) (pieces-append s b ((rw q at h) .1))))
+    by-answer (eqb x CR && eqb y LF) (λ q. rw q (ap (λ ps. emptyLine ∷ ps) (pieces-append s b ((rw q at h) .1))))
     (λ q.
     let e = push-ended x (pieces (y ∷ s)) (pieces b) (rw q at h) in
     rw q (ap (push x) (pieces-append (y ∷ s) b (e .0)) ∙ e .1))
-    (true-or-false (eqb x CR && eqb y LF))
 
 push-length : (x : ℕ) (ps : List Piece) → AllEnded (push x ps) → length (push x ps) ≡ length ps
 unfolding push
@@ -51,11 +50,10 @@ unfolding pieces push lineEnds
 line-count [] h = refl
 line-count (x ∷ []) h = absurd (false≢true (h .0))
 line-count (x ∷ y ∷ s) h =
-    ⊎-elim (λ q. rw q (ap suc (line-count s ((rw q at h) .1))))
+    by-answer (eqb x CR && eqb y LF) (λ q. rw q (ap suc (line-count s ((rw q at h) .1))))
     (λ q.
     let k = rw q at h in
     rw q (push-length x (pieces (y ∷ s)) k ∙ line-count (y ∷ s) (push-ended x (pieces (y ∷ s)) [] k .0)))
-    (true-or-false (eqb x CR && eqb y LF))
 
 -- all ended, and at least one
 abbrev Good : List Piece → Type 0

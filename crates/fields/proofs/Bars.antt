@@ -1,7 +1,6 @@
 -- A line cut at its first bar: its first field, and the fields behind the bar.
 use Prim.Native.Nat.{ℕ, suc, _+_, _-_, _≤_, _<_}
 use mathlib.Core.Path.{_≡_, refl, ap}
-use mathlib.Core.Logic.{⊎-elim}
 use mathlib.Core.List.{[], _∷_}
 use native.Mathlib.Omega.{arith}
 use lib.Dec.{eqb}
@@ -10,21 +9,20 @@ use lib.Seq.{drop-drop}
 use Rattle.dirf.specs.Bytes.{Text}
 use Rattle.dirf.specs.Limits.{bar}
 use Rattle.dirf.specs.Lines.{more, fields}
-use Rattle.dirf.proofs.Bools.{true-or-false}
+use Rattle.dirf.proofs.Bools.{by-answer}
 use Rattle.fields.specs.Places.{partOf, barIn}
 
 no-field : (s : Text) → length s ≤ barIn s → fields s ≡ []
 unfolding barIn fields more
 no-field [] h = refl
 no-field (b ∷ s) h =
-    ⊎-elim (λ q. absurd (omega (arith, rw q at h))) (λ q. rw q (ap (more b) (no-field s (omega (arith, rw q at h)))))
-    (true-or-false (eqb b bar))
+    by-answer (eqb b bar) (λ q. absurd (omega (arith, rw q at h))) (λ q. rw q (ap (more b) (no-field s (omega (arith, rw q at h)))))
 
 first-field : (s : Text) → barIn s < length s → fields s ≡ take (barIn s) s ∷ fields (drop (suc (barIn s)) s)
 unfolding barIn fields more
 first-field [] h = absurd (omega arith)
 first-field (b ∷ s) h =
-    ⊎-elim (λ q. rw q) (λ q. rw q (ap (more b) (first-field s (omega (arith, rw q at h))))) (true-or-false (eqb b bar))
+    by-answer (eqb b bar) (λ q. rw q) (λ q. rw q (ap (more b) (first-field s (omega (arith, rw q at h)))))
 
 -- what begins at byte s of a line, where e is the first bar from there on, or the line's end
 module _ (line : Text) (s e : ℕ) (h : s ≤ length line) (q : e ≡ s + barIn (drop s line)) where

@@ -2,7 +2,6 @@
 use Prim.Native.Nat.{ℕ, _-_, _≤_, _<_}
 use mathlib.Core.Path.{_≡_, refl, sym, ap, _∙_}
 use mathlib.Core.Bool.{Bool, true, false, not, and-true, and-false}
-use mathlib.Core.Logic.{⊎-elim}
 use mathlib.Core.List.{List, [], _∷_, map}
 use lib.Dec.{eqb}
 use lib.ListN.{replicate}
@@ -10,7 +9,7 @@ use borrow.Author.Needs.{zero≤}
 use borrow.Author.Tests.{not-true}
 use Rattle.dirf.specs.Bytes.{Text, every, some, isIn, same, bytes-opens}
 use Rattle.dirf.specs.Fields.{valid}
-use Rattle.dirf.proofs.Bools.{and-left, and-right, true-or-false}
+use Rattle.dirf.proofs.Bools.{and-left, and-right, by-answer}
 use Rattle.dirf.proofs.Says.{isIn-says}
 use Rattle.dirf.proofs.Lists.{none, _also_, of-each}
 use Rattle.layout.specs.Tables.{tab, holdsOf}
@@ -55,7 +54,7 @@ pub letter-valid : (name s : Text) (h : ℕ) → h < 256 → NoneOf words h → 
 unfolding bytes-opens valid holdsOf letterOf seen
 letter-valid name s h b n =
     let asked : ℕ → Bool × Bool = λ h. (letterOf h s, valid name (holdsOf h) s) in
-    ⊎-elim
+    by-answer (isIn h letters)
     (λ e.
     of-each {P = λ k. letterOf k s ≡ valid name (holdsOf k) s}
     (one-of s (83 ∷ 78 ∷ []) refl also one-of s (48 ∷ 49 ∷ []) refl also one-of s (49 ∷ 50 ∷ []) refl also
@@ -64,4 +63,3 @@ letter-valid name s h b n =
     (λ e.
     let p = within asked (true, true) (letters ∷ words) 0 256 refl zero≤ b (apart h e n) in
     sym (ap (λ x. x .0) p) ∙ ap (λ x. x .1) p)
-    (true-or-false (isIn h letters))

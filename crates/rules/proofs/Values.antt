@@ -2,7 +2,6 @@
 use Prim.Native.Nat.{ℕ, suc, _+_, _-_, _*_, _^_, _≤_, _<_, min}
 use mathlib.Core.Path.{_≡_, refl, sym}
 use mathlib.Core.Bool.{Bool, true}
-use mathlib.Core.Logic.{⊎-elim}
 use mathlib.Core.List.{List, [], _∷_}
 use native.Mathlib.Nat.{lt-of-lt-of-le, pow-le-pow-right, min-eq-left, min-eq-right}
 use native.Mathlib.Omega.{arith}
@@ -11,7 +10,7 @@ use lib.ListN.{length, drop, drop-of-length-le, List·getD-eq-default}
 use borrow.Author.Tests.{leb-true, le-leb, lt-leb}
 use Rattle.dirf.specs.Bytes.{if_then_else_, Text, every, isDigit}
 use Rattle.dirf.specs.Numbers.{valueAfter, valueOf, isLeap, daysIn, isDay}
-use Rattle.dirf.proofs.Bools.{and-left, and-right, true-or-false}
+use Rattle.dirf.proofs.Bools.{and-left, and-right, by-answer}
 use Rattle.dirf.proofs.Lists.{every-at}
 use Rattle.dirf.proofs.Says.{below-or, digit-says}
 
@@ -47,7 +46,7 @@ no-month y m h = sym (List·getD-eq-default (lengths (isLeap y)) 0 h)
 days-most : (y m : ℕ) → daysIn y m ≤ 31
 unfolding every daysIn
 days-most y m =
-    let all : every (λ d. leb d 31) (lengths (isLeap y)) ≡ true = ⊎-elim (λ e. rw e) (λ e. rw e) (true-or-false (isLeap y)) in
+    let all : every (λ d. leb d 31) (lengths (isLeap y)) ≡ true = by-answer (isLeap y) (λ e. rw e) (λ e. rw e) in
     leb-true (daysIn y m) 31 (every-at (λ d. leb d 31) (lengths (isLeap y)) m 0 refl all)
 
 -- no month has as many days as the cap

@@ -12,5 +12,5 @@ check-spec =
     tie.close
     (tie.spec
     (λ c κs. search needs)
-    (λ c. ap length (c .before .before .judged .ensures .1) ∙ within-length _ _)
-    (λ c. let w = c .before .before .judged .ensures in (w .0, w .1 ∙ all-within _ _ (demands2025 .counts _ _ .fits))))
+    (λ c. ap length (c .before .before .judged .ensures .entries) ∙ within-length _ _)
+    (λ c. let w = c .before .before .judged .ensures in (w .answer, w .entries ∙ all-within _ _ (demands2025 .counts _ _ .fits))))

@@ -1,9 +1,6 @@
 -- An entry that the table does not hold whole is not written.
-use mathlib.Core.Path.{_≡_, sym, _∙_}
 use native.Mathlib.Omega.{arith}
-use lib.ListN.{length}
 use lib.Seq.{length-sets}
-use borrow.Author.Needs.{needs}
 use borrow.Author.Tests.{lt-ltb, le-ltb}
 use Rattle.checker.specs.Answers.{putEntry}
 use Rattle.checker.proofs.put_entry.Statement.{statement}

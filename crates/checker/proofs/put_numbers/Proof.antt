@@ -1,13 +1,11 @@
 -- What is left of the numbers goes where the last one ended.
-use Prim.Native.Nat.{ℕ, suc, _+_, _-_, _≤_, _<_}
-use mathlib.Core.Path.{_≡_, refl, sym, _∙_}
-use mathlib.Core.List.{List}
+use Prim.Native.Nat.{suc, _+_, _-_, _≤_}
+use mathlib.Core.Path.{_≡_, sym, _∙_}
 use native.Mathlib.Nat.{add-zero}
 use native.Mathlib.Numerals.{add-one}
 use native.Mathlib.Omega.{arith}
-use lib.ListN.{length, getD, set, drop, length-set, drop-of-length-le}
+use lib.ListN.{length, drop, length-set, drop-of-length-le}
 use lib.Seq.{sets, drop-cons}
-use borrow.Author.Needs.{needs}
 use Rattle.checker.proofs.put_numbers.Statement.{statement}
 use Rattle.checker.proofs.put_numbers.Tie as tie
 
@@ -17,10 +15,6 @@ Inv-loop table₀ i row j₀ table j =
 
 abbrev μ-loop : tie.MeasureT-loop
 μ-loop table₀ i row j₀ table j = length row - j
-
-on : (row table : List ℕ) (i j : ℕ) → j < length row
-    → sets table (i + j) (drop j row) ≡ sets (set table (i + j) (getD row j 0)) (i + (j + 1)) (drop (j + 1) row)
-on row table i j h = let n : i + (j + 1) ≡ suc (i + j) = omega arith in rw (n, drop-cons row j 0, add-one)
 
 pub put-numbers-spec : {M : Type 1} → statement M
 put-numbers-spec =
@@ -38,6 +32,8 @@ put-numbers-spec =
     (λ c. omega arith)
     (λ c.
     let l = c .before .before .loop in
-    (simp length-set (omega arith), l .inv .1 ∙ on _ (l .table) (c .before .before .before .args .i) (l .j) (c .before .loop-test .taken)))
+    let a = c .before .before .before .args in
+    let n : a .i + (l .j + 1) ≡ suc (a .i + l .j) = omega arith in
+    (simp length-set (omega arith), l .inv .1 ∙ rw (n, drop-cons (a .row .now) (l .j) 0 (c .before .loop-test .taken), add-one)))
     (λ c. c .before .loop .inv .0 .1)
     (λ c. let l = c .before .loop in sym (l .inv .1 ∙ rw (drop-of-length-le _ (c .loop-test .left)))))

@@ -1,17 +1,17 @@
 -- The identifier of what stands behind two lines.
-use mathlib.Core.Path.{_≡_, ap, _∙_}
+use mathlib.Core.Path.{_≡_}
 use borrow.Author.Needs.{needs}
 use Rattle.fields.specs.Places.{partOf, scanOf}
 use Rattle.dirf.specs.Bytes.{Text}
 use Rattle.dirf.specs.Lines.{clean}
-use Rattle.checker.specs.Lines.{afterLine, thirdKind}
-use Rattle.checker.proofs.lines.FirstPiece.{line-is}
+use Rattle.checker.specs.Lines.{thirdKind}
+use Rattle.checker.proofs.lines.NextLine.{line-is}
 use Rattle.checker.proofs.third_kind.Statement.{statement}
 use Rattle.checker.proofs.third_kind.Tie as tie
 
 line : (s : Text) → partOf s 0 (scanOf s .len) ≡ clean s
-unfolding partOf scanOf
-line s = line-is s
+unfolding scanOf
+line s = line-is s 0
 
 pub third-kind-spec : {M : Type 1} → statement M
 unfolding thirdKind

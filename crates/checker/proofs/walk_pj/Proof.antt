@@ -1,12 +1,20 @@
 -- Line 3 is no DECPF.
-use mathlib.Core.Path.{ap, _∙_}
+use mathlib.Core.Path.{sym, ap, _∙_}
 use lib.ListN.{length}
 use borrow.Author.Needs.{needs}
 use Rattle.dirf.specs.Edition.{edition2025}
-use Rattle.checker.proofs.Edition2025.{say-pj}
+use Rattle.layout.proofs.Edition2025.{other-table}
+use Rattle.checker.specs.Answers.{SayAll}
+use Rattle.checker.proofs.Edition2025.{say2025}
 use Rattle.checker.proofs.Table.{within-length}
 use Rattle.checker.proofs.walk_pj.Statement.{statement}
 use Rattle.checker.proofs.walk_pj.Tie as tie
+
+all : (c : tie.After-pj-table) → let a = c .before .before .before .before .args in
+    SayAll edition2025 (a .names .now) (c .before .row-table .result) (c .pj-table .result) (a .file .now)
+all c =
+    let p = c .before .before .before .before .pre in
+    say2025 _ (p .0) (c .before .row-table .ensures) (c .pj-table .ensures ∙ sym (other-table _ (p .1)))
 
 pub walk-pj-spec : {M : Type 1} → statement M
 walk-pj-spec =
@@ -14,18 +22,11 @@ walk-pj-spec =
     (tie.spec
     (λ c κs. search needs)
     (λ c κs. search needs)
-    (λ c κs.
-    let t = c .before .before .before in
-    let p = t .before .before .before .before .pre in
-    record { edition = edition2025; all = say-pj _ (p .0) (t .before .row-table .ensures) (p .1) (t .pj-table .ensures) })
+    (λ c κs. record { edition = edition2025; all = all (c .before .before .before) })
     (λ c.
-    let t = c .before .before .before .before .before .before in
-    let p = t .before .before .before .before .pre in
-    let all = say-pj _ (p .0) (t .before .row-table .ensures) (p .1) (t .pj-table .ensures) in
-    ap length (c .before .before .walk .ensures .1 edition2025 all) ∙ within-length _ _)
+    let w = c .before .before in
+    ap length (w .walk .ensures .1 edition2025 (all (w .before .before .before .before))) ∙ within-length _ _)
     (λ c.
-    let t = c .before .before .before .before .before .before in
-    let p = t .before .before .before .before .pre in
-    let w = c .before .before .walk .ensures in
-    let all = say-pj _ (p .0) (t .before .row-table .ensures) (p .1) (t .pj-table .ensures) in
-    (w .0 edition2025 all, w .1 edition2025 all)))
+    let w = c .before .before in
+    let a = all (w .before .before .before .before) in
+    record { answer = w .walk .ensures .0 edition2025 a; entries = w .walk .ensures .1 edition2025 a }))

@@ -8,11 +8,12 @@ use Rattle.fields.specs.Places.{partOf}
 use Rattle.checker.proofs.lines.tail.Statement.{statement}
 use Rattle.checker.proofs.lines.tail.Tie as tie
 
-returns : tie.Need-returns
-unfolding partOf
-returns c =
-    let a = c .before .before .args in
-    c .part .ensures .0 ∙ take-all (length (a .s .now)) (drop (a .start) (a .s .now)) (simp length-drop (omega arith))
-
 pub tail-spec : {M : Type 1} → statement M
-tail-spec = tie.close (tie.spec (λ c κs. search needs) returns)
+unfolding partOf
+tail-spec =
+    tie.close
+    (tie.spec
+    (λ c κs. search needs)
+    (λ c.
+    let a = c .before .before .args in
+    c .part .ensures .0 ∙ take-all (length (a .s .now)) (drop (a .start) (a .s .now)) (simp length-drop (omega arith))))

@@ -8,19 +8,6 @@ use Rattle.checker.specs.State.{deepest, pathAfter}
 use Rattle.checker.proofs.state.path_after.Statement.{statement}
 use Rattle.checker.proofs.state.path_after.Tie as tie
 
-returns-2 : tie.Need-returns-2
-unfolding pathAfter
-returns-2 c =
-    let a = c .before .before .before .args in
-    let lines : length (a .path .lines) ≡ deepest = search needs in
-    let kinds : length (a .path .kinds) ≡ deepest = search needs in
-    simp (
-      ← c .before .before .opens-nothing .ensures,
-      c .before .if1 .left,
-      set-out (a .path .lines) (a .d) (a .n) (omega (arith, c .if2 .taken)),
-      set-out (a .path .kinds) (a .d) (a .k) (omega (arith, c .if2 .taken)),
-    )
-
 pub path-after-spec : {M : Type 1} → statement M
 unfolding pathAfter
 path-after-spec =
@@ -29,7 +16,13 @@ path-after-spec =
     (λ c κs. search needs)
     (λ c. simp (← c .before .opens-nothing .ensures, c .if1 .taken))
     (λ c. search needs)
-    returns-2
+    (λ c.
+    let a = c .before .before .before .args in
+    let lines : length (a .path .lines) ≡ deepest = search needs in
+    let kinds : length (a .path .kinds) ≡ deepest = search needs in
+    let same-lines = set-out (a .path .lines) (a .d) (a .n) (omega (arith, c .if2 .taken)) in
+    let same-kinds = set-out (a .path .kinds) (a .d) (a .k) (omega (arith, c .if2 .taken)) in
+    simp (← c .before .before .opens-nothing .ensures, c .before .if1 .left, same-lines, same-kinds))
     (λ c. search needs)
     (λ c. search needs)
     (λ c. search needs)

@@ -17,18 +17,10 @@ place-found-spec =
     (λ c. simp (ne-eqb _ _ (c .before .before .if1 .left), ← c .before .is-later .ensures, c .if2 .taken))
     (λ c κs. search needs)
     (λ c.
-    simp (
-      ne-eqb _ _ (c .before .before .before .before .if1 .left),
-      ← c .before .before .before .is-later .ensures,
-      c .before .before .if2 .left,
-      ← c .before .stands .ensures,
-      c .if3 .taken,
-    ))
+    let s = c .before in
+    let k = s .before .before in
+    simp (ne-eqb _ _ (k .before .if1 .left), ← k .is-later .ensures, s .before .if2 .left, ← s .stands .ensures, c .if3 .taken))
     (λ c.
-    simp (
-      ne-eqb _ _ (c .before .before .before .before .if1 .left),
-      ← c .before .before .before .is-later .ensures,
-      c .before .before .if2 .left,
-      ← c .before .stands .ensures,
-      c .if3 .left,
-    )))
+    let s = c .before in
+    let k = s .before .before in
+    simp (ne-eqb _ _ (k .before .if1 .left), ← k .is-later .ensures, s .before .if2 .left, ← s .stands .ensures, c .if3 .left)))

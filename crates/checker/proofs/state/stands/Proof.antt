@@ -1,44 +1,40 @@
 -- Line by line of the opening, then below the declarant.
 use Prim.Native.Nat.{ℕ}
-use mathlib.Core.Path.{_≡_, _∙_}
+use mathlib.Core.Path.{_≡_}
+use mathlib.Core.Bool.{or-false}
 use native.Mathlib.Omega.{arith}
-use Rattle.checker.proofs.state.Tests.{first-line, second-line, third-line, later-line, is-declarant, no-declarant}
 use borrow.Author.Needs.{needs}
+use borrow.Author.Tests.{le-ltb, eq-eqb, ne-eqb, eqb-false}
+use lib.Dec.{eqb}
+use Rattle.dirf.specs.Bytes.{bytes-opens}
+use Rattle.dirf.specs.Tree.{opening}
+use Rattle.dirf.proofs.Bools.{by-answer}
+use Rattle.checker.specs.State.{standsOn}
 use Rattle.checker.proofs.state.stands.Statement.{statement}
 use Rattle.checker.proofs.state.stands.Tie as tie
 
-returns : tie.Need-returns
-returns c = let a = c .before .before .args in first-line (a .st) (a .k) (a .d) (c .match .keys1)
-
-returns-2 : tie.Need-returns-2
-returns-2 c = let a = c .before .before .args in second-line (a .st) (a .k) (a .d) (c .match .keys2)
-
-returns-3 : tie.Need-returns-3
-returns-3 c =
-    let a = c .before .before .before .before .args in
-    is-declarant (a .k) (omega arith) (omega arith) ∙ third-line (a .st) (a .k) (a .d) (c .before .before .match .keys3)
-
-returns-4 : tie.Need-returns-4
-returns-4 c =
-    let a = c .before .before .before .args in
-    no-declarant (a .k) (λ e. omega arith) (λ e. omega arith) ∙ third-line (a .st) (a .k) (a .d) (c .before .match .keys3)
-
-returns-5 : tie.Need-returns-5
-returns-5 c =
-    let a = c .before .before .before .before .args in
-    no-declarant (a .k) (λ e. omega arith) (λ e. omega arith) ∙ third-line (a .st) (a .k) (a .d) (c .before .before .match .keys3)
-
-returns-6 : tie.Need-returns-6
-returns-6 c =
-    let a = c .before .before .before .args in
+pub stands-spec : {M : Type 1} → statement M
+unfolding standsOn opening bytes-opens
+stands-spec =
+    tie.close
+    (tie.spec
+    (λ c κs. search needs)
+    (λ c. simp (c .match .keys1, or-false))
+    (λ c. simp (c .match .keys2, or-false))
+    (λ c.
+    let m = c .before .before in
+    let k : ℕ = m .before .before .args .k in
+    simp (m .match .keys3) (by-answer (eqb k 3) (λ e. rw e) (λ e. rw (e, eq-eqb k 4 (omega (arith, eqb-false k 3 e))))))
+    (λ c.
+    let k : ℕ = c .before .before .before .args .k in
+    simp (c .before .match .keys3, ne-eqb k 3 (λ e. omega arith), ne-eqb k 4 (λ e. omega arith)))
+    (λ c.
+    let k : ℕ = c .before .before .before .before .args .k in
+    simp (c .before .before .match .keys3, ne-eqb k 3 (λ e. omega arith), ne-eqb k 4 (λ e. omega arith)))
+    (λ c.
     let m = c .before .match .rest in
-    let n : ℕ = a .st .count in
+    let n : ℕ = c .before .before .before .args .st .count in
     let none : n ≡ 0 → ⊥ = m .0 .0 .1 in
     let one : n ≡ 1 → ⊥ = m .0 .1 in
     let two : n ≡ 2 → ⊥ = m .1 in
-    c .stands-below .ensures ∙ later-line (a .st) (a .k) (a .d) (omega arith)
-
-pub stands-spec : {M : Type 1} → statement M
-stands-spec =
-    tie.close
-    (tie.spec (λ c κs. search needs) returns returns-2 returns-3 returns-4 returns-5 returns-6)
+    simp (c .stands-below .ensures, le-ltb n 3 (omega arith))))

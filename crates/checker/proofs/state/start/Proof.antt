@@ -4,9 +4,6 @@ use Rattle.checker.specs.State.{startState}
 use Rattle.checker.proofs.state.start.Statement.{statement}
 use Rattle.checker.proofs.state.start.Tie as tie
 
-returns : tie.Need-returns
-unfolding startState
-returns c = refl
-
 pub start-spec : {M : Type 1} → statement M
-start-spec = tie.close (tie.spec returns)
+unfolding startState
+start-spec = tie.close (tie.spec (λ c. refl))

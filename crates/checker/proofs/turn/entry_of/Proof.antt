@@ -1,6 +1,5 @@
 -- The numbers are small enough.
 use native.Mathlib.Omega.{arith}
-use borrow.Author.Needs.{needs}
 use Rattle.checker.specs.Turn.{entryOf}
 use Rattle.checker.proofs.turn.entry_of.Statement.{statement}
 use Rattle.checker.proofs.turn.entry_of.Tie as tie

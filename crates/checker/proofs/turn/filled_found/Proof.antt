@@ -16,4 +16,6 @@ filled-found-spec =
     (λ c. simp (← c .before .before .field-count .ensures, ne-eqb _ _ (c .if1 .taken)))
     (λ c κs. search needs)
     (λ c κs. search needs)
-    (λ c. simp (c .contents-found .ensures, c .before .name .ensures .0, ← c .before .before .before .before .field-count .ensures, eq-eqb _ _ (c .before .before .if1 .left))))
+    (λ c.
+    let b = c .before .before in
+    simp (c .contents-found .ensures, c .before .name .ensures .0, ← b .before .before .field-count .ensures, eq-eqb _ _ (b .if1 .left))))

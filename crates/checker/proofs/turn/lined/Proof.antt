@@ -24,11 +24,6 @@ lined-spec =
     (λ c κs. c .before .before .before .before .before .before .before .pre)
     (λ c.
     let u = c .before .before .before .before in
-    simp (
-      c .recorded .ensures,
-      c .before .part .ensures .0,
-      u .before .scan .ensures,
-      ← u .before .before .tail .ensures,
-      ← u .number-at .ensures,
-      eq-eqb _ 0 (c .before .before .before .if1 .left),
-    )))
+    let s = u .before in
+    let none = eq-eqb (u .number-at .result) 0 (c .before .before .before .if1 .left) in
+    simp (c .recorded .ensures, c .before .part .ensures .0, s .scan .ensures, ← s .before .tail .ensures, ← u .number-at .ensures, none)))

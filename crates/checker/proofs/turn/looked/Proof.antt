@@ -15,10 +15,6 @@ looked-spec =
     (λ c κs. c .before .before .before .before .before .before .pre)
     (λ c κs. search needs)
     (λ c.
-    simp (
-      c .look-found .ensures,
-      c .before .above .ensures,
-      c .before .before .before .before .part3 .ensures .0,
-      c .before .before .before .before .before .part2 .ensures .0,
-      c .before .before .before .before .before .before .part .ensures .0,
-    )))
+    let t = c .before .before .before .before in
+    let s = t .before in
+    simp (c .look-found .ensures, c .before .above .ensures, t .part3 .ensures .0, s .part2 .ensures .0, s .before .part .ensures .0)))

@@ -1,8 +1,7 @@
 -- What is found stops the turn.
-use mathlib.Core.Path.{_∙_, ap}
+use mathlib.Core.Path.{_∙_}
 use borrow.Author.Needs.{needs}
-use Rattle.checker.specs.State.{placeFound}
-use Rattle.checker.specs.Turn.{filledFound, foundStep, went, readStep}
+use Rattle.checker.specs.Turn.{went, readStep}
 use Rattle.checker.proofs.turn.Stops.{stopped, kept, place-numbered, filled-numbered}
 use Rattle.checker.proofs.turn.read.Statement.{statement}
 use Rattle.checker.proofs.turn.read.Tie as tie
@@ -18,11 +17,15 @@ read-spec =
     (λ c κs. search needs)
     (λ c κs. c .before .before .before .before .before .before .before .pre .near .few)
     (λ c.
-    let a = c .before .before .before .before .before .before .before .before .args in
-    c .refuse2 .ensures ∙ stopped _ (c .before .before .before .filled-found .ensures) (a .st) (went (a .r)) (c .before .if2 .taken)
-    ∙ kept _ (c .before .before .before .before .before .before .place-found .ensures) (a .st) _ (place-numbered _ _ _) (c .before .before .before .before .if1 .left))
+    let g = c .before .before .before in
+    let p = g .before .before .before in
+    let a = p .before .before .args in
+    c .refuse2 .ensures ∙ stopped _ (g .filled-found .ensures) (a .st) (went (a .r)) (c .before .if2 .taken)
+    ∙ kept _ (p .place-found .ensures) (a .st) _ (place-numbered _ _ _) (g .before .if1 .left))
     (λ c κs. search needs)
     (λ c.
-    let a = c .before .before .before .before .before .before .before .before .args in
-    c .go-on .ensures ∙ kept _ (c .before .before .before .filled-found .ensures) (a .st) (went (a .r)) (filled-numbered _ _ _ _ _) (c .before .if2 .left)
-    ∙ kept _ (c .before .before .before .before .before .before .place-found .ensures) (a .st) _ (place-numbered _ _ _) (c .before .before .before .before .if1 .left)))
+    let g = c .before .before .before in
+    let p = g .before .before .before in
+    let a = p .before .before .args in
+    c .go-on .ensures ∙ kept _ (g .filled-found .ensures) (a .st) (went (a .r)) (filled-numbered _ _ _ _ _) (c .before .if2 .left)
+    ∙ kept _ (p .place-found .ensures) (a .st) _ (place-numbered _ _ _) (g .before .if1 .left)))

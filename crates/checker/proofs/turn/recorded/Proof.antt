@@ -13,6 +13,7 @@ recorded-spec =
     (λ c κs. c .before .before .before .pre .near .shallow)
     (λ c κs. c .before .before .before .before .pre)
     (λ c.
-    simp (c .read .ensures, c .before .record-of .ensures .0, c .before .before .if1 .taken, ← c .before .before .before .ends-in-bar .ensures))
+    let b = c .before .before in
+    simp (c .read .ensures, c .before .record-of .ensures .0, b .if1 .taken, ← b .before .ends-in-bar .ensures))
     (λ c κs. c .before .before .before .pre .near .few)
     (λ c. simp (c .refuse .ensures, c .before .if1 .left, ← c .before .before .ends-in-bar .ensures)))

@@ -17,17 +17,9 @@ turn-spec =
     (λ c. simp (c .refuse2 .ensures, c .before .if3 .taken, lt-leb _ _ (c .before .before .if1 .left)))
     (λ c κs. search needs)
     (λ c.
-    simp (
-      c .refuse3 .ensures,
-      le-leb _ _ (c .before .if4 .taken),
-      c .before .before .if3 .left,
-      lt-leb _ _ (c .before .before .before .if1 .left),
-    ))
+    let b = c .before .before in
+    simp (c .refuse3 .ensures, le-leb _ _ (c .before .if4 .taken), b .if3 .left, lt-leb _ _ (b .before .if1 .left)))
     (λ c κs. search needs)
     (λ c.
-    simp (
-      c .lined .ensures,
-      lt-leb _ _ (c .before .if4 .left),
-      c .before .before .if3 .left,
-      lt-leb _ _ (c .before .before .before .if1 .left),
-    )))
+    let b = c .before .before in
+    simp (c .lined .ensures, lt-leb _ _ (c .before .if4 .left), b .if3 .left, lt-leb _ _ (b .before .if1 .left))))
