@@ -1,16 +1,16 @@
 -- What holds of the state between two lines, and what one turn makes of it: the verdict, or one record more.
-use Prim.Native.Nat.{ℕ, zero, suc, _+_, _*_, _≤_, _<_, _/_}
+use Prim.Native.Nat.{ℕ, zero, suc, _+_, _*_, _≤_, _<_}
 use mathlib.Core.Path.{_≡_, refl, sym, ap, ap₂, _∙_, subst}
 use mathlib.Core.Bool.{Bool, true, false, true≢false}
 use mathlib.Core.List.{List, [], _∷_, _++_}
 use native.Mathlib.Omega.{arith}
 use native.Mathlib.Numerals.{add-one}
 use lib.Dec.{eqb, leb, ltb}
-use lib.ListN.{length, drop, drop-of-length-le, take}
-use lib.Seq.{drop-drop, take-nil}
+use lib.ListN.{length, drop, drop-of-length-le}
+use lib.Seq.{drop-drop}
 use borrow.Author.Tests.{leb-true, leb-false, lt-ltb, le-ltb, eqb-true, eqb-false}
 use Rattle.dirf.specs.Bytes.{if_then_else_, Text}
-use Rattle.dirf.specs.Limits.{linesLimit, numbersAnEntry}
+use Rattle.dirf.specs.Limits.{linesLimit}
 use Rattle.dirf.specs.Edition.{Edition, kindIn}
 use Rattle.dirf.specs.Lines.{Piece, pieces, clean, fields, field}
 use Rattle.dirf.specs.FieldReader.{fieldOf}
@@ -19,7 +19,7 @@ use Rattle.dirf.specs.Tree.{Rec, declarant, opening}
 use Rattle.dirf.specs.Order.{here, kindOfLine, order, line-opens}
 use Rattle.dirf.specs.Order as parts
 use Rattle.dirf.specs.Check.{entryOf as entryAfter, bytesOf, tableOf, Verdict, refused, accepted, noBytesLeft, recOf, breach, afterLine}
-use Rattle.dirf.specs.Check.{run, verdict, entryNumbers, numbersOf}
+use Rattle.dirf.specs.Check.{run, verdict}
 use Rattle.dirf.specs.Theorems.Sound.{Sound}
 use Rattle.dirf.proofs.Bools.{if-cases, by-answer}
 use Rattle.dirf.proofs.RulesPut.{first-append}
@@ -32,7 +32,7 @@ use Rattle.rules.proofs.Laws.{or-keeps}
 use Rattle.checker.specs.Lines.{afterLine as behindLine, thirdKind}
 use Rattle.checker.specs.State.{lineBytes, startState, startPast, lastIn, above, Near, pastAfter, stateAfter}
 use Rattle.checker.specs.Turn.{refusedAt, haltAt, halt, Fits, lookedFound, entryOf, turnOf}
-use Rattle.checker.specs.Answers.{answerOf, entryOfCode, SayAll, withEntries, tableWithin, putEntry}
+use Rattle.checker.specs.Answers.{answerOf, entryOfCode, SayAll}
 use Rattle.checker.specs.declared.Answer.{Answer}
 use Rattle.checker.specs.declared.state.Past.{Past}
 use Rattle.checker.specs.declared.state.State.{State}
@@ -43,7 +43,6 @@ use Rattle.checker.proofs.state.Next.{sums-next}
 use Rattle.checker.proofs.lines.NextLine.{line-is}
 use Rattle.checker.proofs.turn.Outcome.{early, lookRule, ln, kd, rec, readAs, Took, Outcome, Turned, answer-is, looked-is}
 use Rattle.checker.proofs.turn.Outcome.{small, turned}
-use Rattle.checker.proofs.Table.{held-length, put-next}
 
 -- what stands behind n lines
 unfoldable pub behind : ℕ → Text → Text
@@ -242,50 +241,3 @@ module _ {e : Edition} {below : List (List ℕ)} {file : Text} {room : ℕ} {st 
         by-answer (leb (length file) (st .at))
         (λ q. rw q (end-step (leb-true (length file) (st .at) q) (st .done) refl))
         (λ q. on-step (turnOf names rows below file st) (turned (h .sums) (all .say) room (leb-false (length file) (st .at) q)))
-
--- The invariant of the loop: the state, and the table with those entries of the lines before that it holds whole.
-
--- a table with those entries of the lines before in front that it holds whole
-abbrev entriesIn : List ℕ → List Rec → List ℕ
-entriesIn first before = withEntries (take (length first / numbersAnEntry) (tableOf before)) first
-
-pub record Held (e : Edition) (below : List (List ℕ)) (file : Text) (room : ℕ) (first t : List ℕ) (st : State) (past : Past) : Type 0 where
-  pub before : List Rec
-  pub reading : Reading e below file room st past before
-  pub table : t ≡ entriesIn first before
-
-pub held-start : {e : Edition} {below : List (List ℕ)} {file : Text} {room : ℕ} {first : List ℕ} {st : State} {past : Past} → Sound e
-    → st ≡ startState → past ≡ startPast → Held e below file room first first st past
-unfolding tableOf withEntries numbersOf
-held-start {first} sound q p =
-    rw (q, p) (record { before = []; reading = reading-start sound; table = rw (take-nil (length first / numbersAnEntry)) })
-
-module _ {e : Edition} {below : List (List ℕ)} {file : Text} {room : ℕ} {first t : List ℕ} {st : State} {past : Past}
-    (h : Held e below file room first t st past) where
-  pub same-length : length t ≡ length first
-  same-length = ap length (h .table) ∙ held-length first (tableOf (h .before))
-
-  -- where the turn stops, or what it has read is refused, the answer is the verdict and the table is left as it is
-  pub answered : (a : Answer) → Stops (verdict e file room) (h .before) a
-      → (a ≡ answerOf (verdict e file room)) × (t ≡ tableWithin (verdict e file room) first)
-  unfolding tableWithin
-  answered a w = (w .answer, h .table ∙ ap (λ es. withEntries (take (length first / numbersAnEntry) es) first) (sym (w .table)))
-
-  pub turn-step : {names rows : List ℕ} → SayAll e names rows below file → (s : Stepped) → s ≡ turnOf names rows below file st
-      → Step (h .reading) s
-  turn-step all s q = subst (Step (h .reading)) (sym q) (step (h .reading) all)
-
-  pub held-next : (r : Record) → Goes (h .reading) r
-      → Held e below file room first (putEntry t (st .count) (entryNumbers (entryOfCode (entryOf st r))))
-      (stateAfter st (r .kind) (r .outer) (r .len)) (pastAfter past (r .kind) (above (st .path .lines) (r .outer)) (st .at) (r .len))
-  unfolding tableOf
-  held-next r g =
-      record {
-        before = g .rec ∷ h .before;
-        reading = g .reading;
-        table =
-            ap₂ (λ a n. putEntry a n (entryNumbers (entryOfCode (entryOf st r)))) (h .table)
-            (h .reading .sums .count ∙ sym (table-length (h .before)))
-            ∙ ap (λ x. putEntry (entriesIn first (h .before)) (length (tableOf (h .before))) (entryNumbers x)) (g .entry)
-            ∙ put-next first (tableOf (h .before)) (entryAfter (g .rec) (h .before));
-      }

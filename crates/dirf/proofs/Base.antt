@@ -57,7 +57,8 @@ module _ (e : Edition) (k : ℕ) (base : isBase e k ≡ true) where
   pub base-laid-out : Sound e → 1 ≤ length (rowsOf e k)
   base-laid-out sound =
       let laid = every-in _ (Memᴰ·cast (base-name .2) (Memᴰ·map (λ n. n .0) (base-name .1))) (sound .kinds .laidOut) in
-      by-answer (leb 1 (length (rowsOf e k))) (λ p. leb-true 1 (length (rowsOf e k)) p) (λ p. absurd (false≢true (rw p at (rw base at laid))))
+      by-answer (leb 1 (length (rowsOf e k))) (λ p. leb-true 1 (length (rowsOf e k)) p)
+      (λ p. absurd (false≢true (rw p at (rw base at laid))))
 
 first-in : (gs : List (List ℕ × List Row)) (k : ℕ) → map (λ g. firstOf (g .1)) gs ≡ map (λ g. (obligatory, identifier)) gs
     → 1 ≤ length (rowsIn gs k) → firstOf (rowsIn gs k) ≡ (obligatory, identifier)

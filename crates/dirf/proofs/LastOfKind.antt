@@ -17,6 +17,7 @@ use Rattle.dirf.specs.Keys.{lastUnder}
 use Rattle.dirf.specs.Check.{entryOf, tableOf}
 use Rattle.dirf.specs.Theorems.Sound.{level, Sound}
 use Rattle.dirf.specs.Theorems.Whose.{kindAt, parentAt}
+use Rattle.dirf.proofs.Bools.{by-answer}
 use Rattle.dirf.proofs.Parents.{has-parent}
 use Rattle.dirf.proofs.History.{History, start, next, entry-last, entry-earlier, line-cases}
 use Rattle.dirf.proofs.OpenRecords.{Last, first-line}
@@ -93,16 +94,15 @@ last-tells : (before : List Rec) (k : ℕ) (c : Option Open) (up : List Open) �
 unfolding inOrder
 last-tells before k none up none-yet ordered v z =
     no-line-tells before (numberOfFirst up) k (λ m h e q. none-yet m h z e (ap isValue q ∙ v))
-last-tells before k (some x) up known ordered v z = go (eqb (x .kind) k) refl
-  where
-    go : (t : Bool) → eqb (x .kind) k ≡ t → Tells before (numberOfFirst up) k
-    go true t =
-        let q = eqb-true (x .kind) k t in
-        since-tells before (x .number) (numberOfFirst up) k (known .line .0) (known .line .1) (known .kind ∙ q) (known .parent)
-        (λ m a b. omega (arith, known .since m a b, ap level q))
-    go false t =
-        no-line-tells before (numberOfFirst up) k
-        (λ m h e q. omega (arith, known .latest m h z e (ap isValue q ∙ v), q, leb-true (x .kind) k ordered, eqb-false (x .kind) k t))
+last-tells before k (some x) up known ordered v z =
+    by-answer (eqb (x .kind) k)
+    (λ t.
+    let q = eqb-true (x .kind) k t in
+    since-tells before (x .number) (numberOfFirst up) k (known .line .0) (known .line .1) (known .kind ∙ q) (known .parent)
+    (λ m a b. omega (arith, known .since m a b, ap level q)))
+    (λ t.
+    no-line-tells before (numberOfFirst up) k
+    (λ m h e q. omega (arith, known .latest m h z e (ap isValue q ∙ v), q, leb-true (x .kind) k ordered, eqb-false (x .kind) k t)))
 
 -- a record that opens is innermost
 opens-first : (r : Rec) (before : List Rec) → isValue (r .kind) ≡ false → numberOfFirst (opened (r ∷ before)) ≡ suc (length before)
@@ -114,29 +114,26 @@ module _ (e : Edition) (sound : Sound e) where
   values-tell : {before : List Rec} → History e before → (j : ℕ) → isValue j ≡ true → Tells before (numberOfFirst (opened before)) j
   unfolding lastOf ifUnder lastUnder parentOf
   values-tell start j v = refl
-  values-tell (next {r = r} {before = before} stands parent hist) j v = go (isValue (r .kind)) refl (values-tell hist j v)
-    where
-      go : (t : Bool) → isValue (r .kind) ≡ t → Tells before (numberOfFirst (opened before)) j
-          → Tells (r ∷ before) (numberOfFirst (opened (r ∷ before))) j
-      go true w ih =
-          let inside = parent ∙ ap numberOfFirst (value-place e sound hist (r .kind) w stands) in
-          rw (value-closes-nothing e sound r hist w stands parent)
-          (tells-on r before (numberOfFirst (opened before)) j (λ _. inside) (λ _. ih))
-      go false w ih =
-          let p = suc (length before) in
-          rw (opens-first r before w)
-          (tells-on r before p j (λ q. absurd (true≢false (sym v ∙ ap isValue (sym q) ∙ w)))
-          (λ _. no-line-tells before p j (λ m h at _. omega (arith, open-now e sound hist .parents m h, at))))
+  values-tell (next {r = r} {before = before} stands parent hist) j v =
+      by-answer (isValue (r .kind))
+      (λ w.
+      let inside = parent ∙ ap numberOfFirst (value-place e sound hist (r .kind) w stands) in
+      rw (value-closes-nothing e sound r hist w stands parent)
+      (tells-on r before (numberOfFirst (opened before)) j (λ _. inside) (λ _. values-tell hist j v)))
+      (λ w.
+      let p = suc (length before) in
+      rw (opens-first r before w)
+      (tells-on r before p j (λ q. absurd (true≢false (sym v ∙ ap isValue (sym q) ∙ w)))
+      (λ _. no-line-tells before p j (λ m h at _. omega (arith, open-now e sound hist .parents m h, at)))))
 
   -- where a record may stand, the last of its kind tells what stood last of that kind under its parent
   pub last-by-kind : {before : List Rec} → History e before → (k : ℕ) → mayStand e before k ≡ true → 0 < level k
       → lastUnder before (parentOf e before k) k ≡ ifUnder (parentOf e before k) (lastOf before k)
   unfolding parentOf
-  last-by-kind {before} hist k stands deep = go (isValue k) refl
-    where
-      go : (t : Bool) → isValue k ≡ t → Tells before (parentOf e before k) k
-      go true v = rw (value-place e sound hist k v stands) (values-tell hist k v)
-      go false v =
-          let q = placed e sound hist k in
-          let p = has-parent e before k deep stands in
-          last-tells before k (place e before k .last) (place e before k .up) (q .last) (p .2) v (first-line (q .known) (p .1))
+  last-by-kind {before} hist k stands deep =
+      by-answer (isValue k)
+      (λ v. rw (value-place e sound hist k v stands) (values-tell hist k v))
+      (λ v.
+      let q = placed e sound hist k in
+      let p = has-parent e before k deep stands in
+      last-tells before k (place e before k .last) (place e before k .up) (q .last) (p .2) v (first-line (q .known) (p .1)))

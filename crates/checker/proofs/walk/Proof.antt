@@ -14,7 +14,8 @@ use Rattle.checker.specs.Turn.{Fits, lookedFound, entryOf}
 use Rattle.checker.specs.Answers.{SayAll}
 use Rattle.checker.specs.declared.state.State.{State}
 use Rattle.checker.proofs.turn.Stops.{looked-numbered, keeps-all}
-use Rattle.checker.proofs.Reading.{On, Held, held-start, near, same-length, answered, turn-step, held-next}
+use Rattle.checker.proofs.Reading.{On, near}
+use Rattle.checker.proofs.Held.{Held, held-start, same-length, answered, turn-step, held-next}
 use Rattle.checker.proofs.walk.Statement.{statement}
 use Rattle.checker.proofs.walk.Tie as tie
 
