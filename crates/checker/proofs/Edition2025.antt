@@ -4,7 +4,7 @@ use mathlib.Core.Path.{_≡_, sym, subst}
 use mathlib.Core.List.{List}
 use Rattle.dirf.specs.Bytes.{Text}
 use Rattle.dirf.specs.Edition.{edition2025}
-use Rattle.dirf.proofs.Edition2025.{sound2025}
+use Rattle.dirf.proofs.tables.Edition2025.{sound2025}
 use Rattle.layout.specs.Tables.{nameTable, rowTable, belowTable}
 use Rattle.layout.specs.LaidOut.{SayBelow}
 use Rattle.layout.proofs.Laws.{says, says-below}

@@ -13,7 +13,7 @@ use Rattle.dirf.specs.Order as parts
 use Rattle.dirf.specs.Check.{entryOf as entryAfter, tableOf}
 use Rattle.dirf.specs.Check.{verdict, entryNumbers, numbersOf}
 use Rattle.dirf.specs.Theorems.Sound.{Sound}
-use Rattle.dirf.proofs.History.{table-length}
+use Rattle.dirf.proofs.tree.History.{table-length}
 use Rattle.checker.specs.State.{startState, startPast, above, pastAfter, stateAfter}
 use Rattle.checker.specs.Turn.{entryOf, turnOf}
 use Rattle.checker.specs.Answers.{answerOf, entryOfCode, SayAll, withEntries, tableWithin, putEntry}

@@ -21,11 +21,11 @@ use Rattle.dirf.specs.Order as parts
 use Rattle.dirf.specs.Check.{entryOf as entryAfter, bytesOf, tableOf, Verdict, refused, accepted, noBytesLeft, recOf, breach, afterLine}
 use Rattle.dirf.specs.Check.{run, verdict}
 use Rattle.dirf.specs.Theorems.Sound.{Sound}
-use Rattle.dirf.proofs.Bools.{if-cases, by-answer}
-use Rattle.dirf.proofs.RulesPut.{first-append}
-use Rattle.dirf.proofs.History.{table-length}
-use Rattle.dirf.proofs.OpenRecords.{open-depth}
-use Rattle.dirf.proofs.Opened.{open-records}
+use Rattle.dirf.proofs.tests.Bools.{if-cases, by-answer}
+use Rattle.dirf.proofs.rules.RulesPut.{first-append}
+use Rattle.dirf.proofs.tree.History.{table-length}
+use Rattle.dirf.proofs.tree.OpenRecords.{open-depth}
+use Rattle.dirf.proofs.tree.Opened.{open-records}
 use Rattle.layout.specs.Tables.{namesIn}
 use Rattle.layout.specs.LaidOut.{SayBelow}
 use Rattle.rules.proofs.Laws.{or-keeps}

@@ -8,7 +8,7 @@ use lib.Seq.{sets-eq, take-append-seam, drop-append-add, drop-drop, take-all, ta
 use borrow.Author.Tests.{lt-ltb, le-ltb}
 use Rattle.dirf.specs.Limits.{numbersAnEntry}
 use Rattle.dirf.specs.Check.{Entry, entryNumbers, numbersOf, Verdict}
-use Rattle.dirf.proofs.Says.{below-or}
+use Rattle.dirf.proofs.tests.Says.{below-or}
 use Rattle.checker.specs.Answers.{withEntries, tableWithin, tableAfter, putEntry}
 
 pub length-numbers : (es : List Entry) → length (numbersOf es) ≡ numbersAnEntry * length es

@@ -2,15 +2,15 @@
 use Rattle.dirf.specs.Edition.{Edition, edition2025}
 use Rattle.dirf.specs.Theorems.Sound.{Sound}
 use Rattle.dirf.specs.Theorems.Demands.{Demands}
-use Rattle.dirf.proofs.Columns.{columns-hold, writer-columns-hold}
-use Rattle.dirf.proofs.TestsSay.{tests-say}
-use Rattle.dirf.proofs.Answered.{answered, only, accepted-exactly}
-use Rattle.dirf.proofs.Edition2025.{sound2025}
-use Rattle.dirf.proofs.GoodSoFar.{good-so-far}
-use Rattle.dirf.proofs.Whose.{whose}
-use Rattle.dirf.proofs.Counts.{counts}
-use Rattle.dirf.proofs.Entries.{entries}
-use Rattle.dirf.proofs.WriterBack.{writer-reads-back, reader-writes-back}
+use Rattle.dirf.proofs.rules.Columns.{columns-hold, writer-columns-hold}
+use Rattle.dirf.proofs.breaches.TestsSay.{tests-say}
+use Rattle.dirf.proofs.files.Answered.{answered, only, accepted-exactly}
+use Rattle.dirf.proofs.tables.Edition2025.{sound2025}
+use Rattle.dirf.proofs.files.GoodSoFar.{good-so-far}
+use Rattle.dirf.proofs.tree.Whose.{whose}
+use Rattle.dirf.proofs.files.Counts.{counts}
+use Rattle.dirf.proofs.files.Entries.{entries}
+use Rattle.dirf.proofs.back.WriterBack.{writer-reads-back, reader-writes-back}
 
 pub demands : (e : Edition) → Sound e → Demands e
 demands e sound =

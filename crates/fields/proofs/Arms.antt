@@ -7,9 +7,9 @@ use mathlib.Core.List.{List, [], _∷_, map, tail-eq-of-cons-eq}
 use types.Run.{OneOf}
 use borrow.Author.Tests.{ne-eqb}
 use Rattle.dirf.specs.Bytes.{every, some, isIn}
-use Rattle.dirf.proofs.Bools.{unless-true}
-use Rattle.dirf.proofs.Says.{isIn-says}
-use Rattle.dirf.proofs.Lists.{every-in}
+use Rattle.dirf.proofs.tests.Bools.{unless-true}
+use Rattle.dirf.proofs.tests.Says.{isIn-says}
+use Rattle.dirf.proofs.tests.Lists.{every-in}
 
 -- an arm of single numbers is told that the number is one of them
 pub keys : {A : Type 0} (f : ℕ → A) (v : A) (k : ℕ) (ks : List ℕ) → map f (k ∷ ks) ≡ map (λ x. v) (k ∷ ks)

@@ -9,7 +9,7 @@ use lib.Seq.{drop-drop}
 use Rattle.dirf.specs.Bytes.{Text}
 use Rattle.dirf.specs.Limits.{bar}
 use Rattle.dirf.specs.Lines.{more, fields}
-use Rattle.dirf.proofs.Bools.{by-answer}
+use Rattle.dirf.proofs.tests.Bools.{by-answer}
 use Rattle.fields.specs.Places.{partOf, barIn}
 
 no-field : (s : Text) → length s ≤ barIn s → fields s ≡ []

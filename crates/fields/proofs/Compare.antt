@@ -9,7 +9,7 @@ use lib.ListN.{length, getD, drop, drop-of-length-le}
 use lib.Seq.{drop-cons}
 use borrow.Author.Tests.{eq-eqb, ne-eqb, lt-ltb, le-ltb}
 use Rattle.dirf.specs.Bytes.{Text, same, less}
-use Rattle.dirf.proofs.Says.{denies, below-or, same-says}
+use Rattle.dirf.proofs.tests.Says.{denies, below-or, same-says}
 
 pub same-longer : (a b : Text) → (length a ≡ length b → ⊥) → same a b ≡ false
 same-longer a b h = denies (same a b) (same-says a b) .1 (λ e. h (ap length e))

@@ -9,8 +9,8 @@ use lib.Seq.{getD-set-other}
 use Rattle.dirf.specs.Bytes.{Text}
 use Rattle.dirf.specs.Limits.{bar}
 use Rattle.dirf.specs.Lines.{fields, field}
-use Rattle.dirf.proofs.Bools.{if-cases}
-use Rattle.dirf.proofs.Says.{below-or}
+use Rattle.dirf.proofs.tests.Bools.{if-cases}
+use Rattle.dirf.proofs.tests.Says.{below-or}
 use Rattle.fields.specs.Places.{partOf, mostFields, noPlaces, addPlace, placesFrom, placesOf, cellAt}
 use Rattle.fields.specs.declared.Places.{Places}
 use Rattle.fields.proofs.PlaceLaws.{places-count, places-cells, cell-at}

@@ -9,7 +9,7 @@ use Rattle.dirf.specs.Bytes.{Text, isIn}
 use Rattle.dirf.specs.Kinds.{IDREC, FCI, PROC, RRA, SCP, isBeneficiary}
 use Rattle.dirf.specs.Lines.{field}
 use Rattle.dirf.specs.Keys.{keyFields}
-use Rattle.dirf.proofs.Bools.{if-cases}
+use Rattle.dirf.proofs.tests.Bools.{if-cases}
 use Rattle.fields.specs.Places.{keyParts}
 
 -- what holds of the three lists that there are holds of every kind's

@@ -11,7 +11,7 @@ use Rattle.dirf.specs.Bytes.{Text}
 use Rattle.dirf.specs.Limits.{bar}
 use Rattle.dirf.specs.Lines.{more, fields, field}
 use Rattle.dirf.specs.Keys.{keyOf}
-use Rattle.dirf.proofs.Bools.{if-cases}
+use Rattle.dirf.proofs.tests.Bools.{if-cases}
 use Rattle.fields.specs.declared.Places.{Places}
 use Rattle.fields.specs.Places.{partOf, mostFields, noPlaces, addPlace, placesFrom, placesOf, cellAt, cellsFrom, cellsAt, keyParts}
 use Rattle.fields.specs.Places.{barIn}

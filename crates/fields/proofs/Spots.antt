@@ -13,7 +13,7 @@ use borrow.Author.Tests.{le-leb}
 use Rattle.dirf.specs.Bytes.{if_then_else_, Text}
 use Rattle.dirf.specs.Lines.{fields, field}
 use Rattle.dirf.specs.FieldReader.{fieldOf, widthOf, reader-opens}
-use Rattle.dirf.proofs.FieldPlaces.{field-placed}
+use Rattle.dirf.proofs.back.FieldPlaces.{field-placed}
 use Rattle.fields.specs.declared.Place.{Place}
 use Rattle.fields.specs.Places.{partOf, placeOf, barIn}
 use Rattle.fields.proofs.Bars.{cut, uncut}

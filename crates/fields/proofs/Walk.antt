@@ -8,7 +8,7 @@ use borrow.Author.Tests.{eq-eqb, ne-eqb}
 use Rattle.dirf.specs.Bytes.{Text}
 use Rattle.dirf.specs.Limits.{bar}
 use Rattle.dirf.specs.Lines.{isLineEnd, clean}
-use Rattle.dirf.proofs.Lists.{drop-on}
+use Rattle.dirf.proofs.tests.Lists.{drop-on}
 use Rattle.fields.specs.declared.Places.{Places}
 use Rattle.fields.specs.Places.{addPlace, placesFrom}
 

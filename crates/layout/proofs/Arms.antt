@@ -7,7 +7,7 @@ use mathlib.Core.List.{List}
 use native.Mathlib.Omega.{arith}
 use lib.ListN.{replicate}
 use Rattle.dirf.specs.Bytes.{if_then_else_, some, isIn}
-use Rattle.dirf.proofs.Says.{below-or}
+use Rattle.dirf.proofs.tests.Says.{below-or}
 use Rattle.fields.proofs.Arms.{NoneOf, none-in}
 use Rattle.layout.specs.Tables.{tab}
 use Rattle.layout.proofs.Tab.{tab-all}

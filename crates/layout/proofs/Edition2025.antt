@@ -9,7 +9,7 @@ use Rattle.dirf.specs.Bytes.{every, bytes-opens}
 use Rattle.dirf.specs.Kinds.{DECPF, DECPJ}
 use Rattle.dirf.specs.Below.{Children, underDECPF, underDECPJ, below2025}
 use Rattle.dirf.specs.Edition.{edition2025, edition-opens}
-use Rattle.dirf.proofs.Bools.{if-cases}
+use Rattle.dirf.proofs.tests.Bools.{if-cases}
 use Rattle.layout.specs.Tables.{holders, belowTable, nameIn, namesIn, baseIn, nameTable, slotOf, concat, rowsIn, countIn, rowIn}
 use Rattle.layout.specs.Tables.{byteIn, rowOf, formatOf, fillOf, needOf, holdsOf, recordOf, rowBytesOf, formatByte, fillByte}
 use Rattle.layout.specs.Tables.{needByte, holdsByte}

@@ -13,9 +13,9 @@ use Rattle.dirf.specs.Bytes.{Text, every, some, same, isIn, lookup}
 use Rattle.dirf.specs.Row.{Row}
 use Rattle.dirf.specs.Edition.{Edition, kindIn, kindOf, nameOf, rowsOf, isBase}
 use Rattle.dirf.specs.Tree.{mayHold}
-use Rattle.dirf.proofs.Bools.{if-cases}
-use Rattle.dirf.proofs.Says.{below-or}
-use Rattle.dirf.proofs.Tables.{in-table}
+use Rattle.dirf.proofs.tests.Bools.{if-cases}
+use Rattle.dirf.proofs.tests.Says.{below-or}
+use Rattle.dirf.proofs.tables.Tables.{in-table}
 use Rattle.fields.specs.Places.{mostFields}
 use Rattle.layout.specs.Tables.{kinds, holders, nameIn, namesIn, baseIn, nameTable, rowBytes, recordBytes, rowIn, rowsIn, countIn}
 use Rattle.layout.specs.Tables.{byteIn, rowTable, recordOf, yes, yesIn, holdsIn, belowTable}

@@ -9,8 +9,8 @@ use borrow.Author.Tests.{ltb-true, ne-eqb}
 use Rattle.dirf.specs.Bytes.{every, some, isIn, lookup}
 use Rattle.dirf.specs.Row.{Row}
 use Rattle.dirf.specs.Edition as edition
-use Rattle.dirf.proofs.Bools.{and-left, and-right}
-use Rattle.dirf.proofs.Says.{below-or}
+use Rattle.dirf.proofs.tests.Bools.{and-left, and-right}
+use Rattle.dirf.proofs.tests.Says.{below-or}
 use Rattle.layout.specs.Tables.{kinds}
 
 -- a kind, 0 included, or past the kinds

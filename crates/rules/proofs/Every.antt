@@ -4,8 +4,8 @@ use mathlib.Core.Path.{_≡_, sym, ap, _∙_}
 use mathlib.Core.Bool.{Bool, true}
 use lib.ListN.{length, getD, take, drop, take-append-drop}
 use Rattle.dirf.specs.Bytes.{Text, every}
-use Rattle.dirf.proofs.Bools.{and-left, and-right}
-use Rattle.dirf.proofs.Lists.{drop-on, every-append}
+use Rattle.dirf.proofs.tests.Bools.{and-left, and-right}
+use Rattle.dirf.proofs.tests.Lists.{drop-on, every-append}
 use Rattle.fields.specs.Places.{partOf}
 
 module _ (test : ℕ → Bool) (s : Text) (i : ℕ) where

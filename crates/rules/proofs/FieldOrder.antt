@@ -14,9 +14,9 @@ use Rattle.dirf.specs.Numbers.{isDate}
 use Rattle.dirf.specs.Fields.{isObligatory, rightByte, fillsTo, sizeHeld, takesNoZero, dated, valid, filled, fieldOrder}
 use Rattle.dirf.specs.Fields.{obligatoryFieldEmpty, byteOfTheWrongKind, wrongSize, zeroInFront, noSuchDate, notAValidValue}
 use Rattle.dirf.specs.Rules.{Found, keeps, given, orElse, askField}
-use Rattle.dirf.proofs.Lists.{listed}
-use Rattle.dirf.proofs.Asked.{field-kept, field-passes, nothing-found}
-use Rattle.dirf.proofs.KeptFields.{within-size}
+use Rattle.dirf.proofs.tests.Lists.{listed}
+use Rattle.dirf.proofs.rules.Asked.{field-kept, field-passes, nothing-found}
+use Rattle.dirf.proofs.back.KeptFields.{within-size}
 use Rattle.rules.specs.Findings.{numberOf}
 
 step : (n f : ℕ) (t : Bool) (later : Found) → numberOf (orElse (given n f t) later) ≡ (if t then n else numberOf later)

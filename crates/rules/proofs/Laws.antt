@@ -10,7 +10,7 @@ use Rattle.dirf.specs.Fields.{fieldOrder}
 use Rattle.dirf.specs.Conditions.{conditionOrder}
 use Rattle.dirf.specs.Rules.{Found, keeps, breaks, orElse, askFields, askConditions, ask, first}
 use Rattle.dirf.specs.Order.{contents}
-use Rattle.dirf.proofs.Asked.{first-passes, nothing-found}
+use Rattle.dirf.proofs.rules.Asked.{first-passes, nothing-found}
 use Rattle.rules.specs.declared.Finding.{Finding}
 use Rattle.rules.specs.Findings.{findingOf, contentsFound}
 

@@ -9,9 +9,9 @@ use borrow.Author.Needs.{zero≤}
 use borrow.Author.Tests.{not-true}
 use Rattle.dirf.specs.Bytes.{Text, every, some, isIn, same, bytes-opens}
 use Rattle.dirf.specs.Fields.{valid}
-use Rattle.dirf.proofs.Bools.{and-left, and-right, by-answer}
-use Rattle.dirf.proofs.Says.{isIn-says}
-use Rattle.dirf.proofs.Lists.{none, _also_, of-each}
+use Rattle.dirf.proofs.tests.Bools.{and-left, and-right, by-answer}
+use Rattle.dirf.proofs.tests.Says.{isIn-says}
+use Rattle.dirf.proofs.tests.Lists.{none, _also_, of-each}
 use Rattle.layout.specs.Tables.{tab, holdsOf}
 use Rattle.fields.proofs.Arms.{NoneOf, none-in}
 use Rattle.rules.specs.Findings.{onlyByte, letterOf}

@@ -9,7 +9,7 @@ use Rattle.dirf.specs.Fields.{fieldOrder, fields-opens}
 use Rattle.dirf.specs.Rules.{askField, rules-opens}
 use Rattle.dirf.specs.Amounts.{Reading, readAmount, amounts-opens}
 use Rattle.dirf.specs.Theorems.Plain.{_∈_}
-use Rattle.dirf.proofs.Lists.{Each, none, _also_, of-each}
+use Rattle.dirf.proofs.tests.Lists.{Each, none, _also_, of-each}
 use Rattle.layout.specs.declared.Row.{Row}
 use Rattle.layout.specs.Tables.{formatOf, fillOf, needOf, holdsOf, rowOf}
 use Rattle.layout.specs.Codes.{rowSaid}

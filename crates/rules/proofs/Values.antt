@@ -10,9 +10,9 @@ use lib.ListN.{length, drop, drop-of-length-le, List·getD-eq-default}
 use borrow.Author.Tests.{leb-true, le-leb, lt-leb}
 use Rattle.dirf.specs.Bytes.{if_then_else_, Text, every, isDigit}
 use Rattle.dirf.specs.Numbers.{valueAfter, valueOf, isLeap, daysIn, isDay}
-use Rattle.dirf.proofs.Bools.{and-left, and-right, by-answer}
-use Rattle.dirf.proofs.Lists.{every-at}
-use Rattle.dirf.proofs.Says.{below-or, digit-says}
+use Rattle.dirf.proofs.tests.Bools.{and-left, and-right, by-answer}
+use Rattle.dirf.proofs.tests.Lists.{every-at}
+use Rattle.dirf.proofs.tests.Says.{below-or, digit-says}
 
 pub value-end : (s : Text) (i n : ℕ) → length s ≤ i → valueAfter n (drop i s) ≡ n
 unfolding valueAfter

@@ -16,7 +16,7 @@ use Rattle.dirf.specs.Amounts.{Reading, readAmount, readMonths, amounts-opens}
 use Rattle.dirf.specs.LineWriter.{writeLine}
 use Rattle.dirf.specs.Theorems.Plain.{wholeLine}
 use Rattle.dirf.specs.Theorems.ThereAndBack.{Sound-line, ReadsBack, together}
-use Rattle.dirf.proofs.NumbersBack.{numbers-back}
+use Rattle.dirf.proofs.back.NumbersBack.{numbers-back}
 use Rattle.dirf.proofs.Demands.{demands2025}
 use Rattle.writer.specs.declared.NumberWritten.{NumberWritten}
 use Rattle.writer.specs.Answers.{numberWritten, lineWritten}

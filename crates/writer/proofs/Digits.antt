@@ -14,8 +14,8 @@ use Rattle.dirf.specs.Numbers.{decimal}
 use Rattle.dirf.specs.Rules.{rules-opens}
 use Rattle.dirf.specs.Written.{writes}
 use Rattle.dirf.specs.Amounts.{writeNumber, amounts-opens}
-use Rattle.dirf.proofs.Bools.{if-cases}
-use Rattle.dirf.proofs.NumbersBack.{nothing-written}
+use Rattle.dirf.proofs.tests.Bools.{if-cases}
+use Rattle.dirf.proofs.back.NumbersBack.{nothing-written}
 
 -- however many digits are allowed, where the number has no more
 enough : (m n v : ℕ) → v < 10 ^ m → v < 10 ^ n → decimal m v ≡ decimal n v

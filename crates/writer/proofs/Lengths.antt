@@ -10,7 +10,7 @@ use lib.ListN.{length, getD, drop, drop-of-length-le, length-append, length-drop
 use lib.Seq.{drop-cons, length-take-le}
 use borrow.Author.Tests.{ne-eqb}
 use Rattle.dirf.specs.Bytes.{Text}
-use Rattle.dirf.proofs.Says.{same-answer, eqb-says, ltb-says}
+use Rattle.dirf.proofs.tests.Says.{same-answer, eqb-says, ltb-says}
 use Rattle.dirf.specs.LineWriter.{cut, sum, joined, lineOf}
 
 module _ (ns : List ℕ) (i left : ℕ) where

@@ -15,8 +15,8 @@ use Rattle.dirf.specs.Rules.{Found, keeps, breaks, first}
 use Rattle.dirf.specs.Order.{contentsOf}
 use Rattle.dirf.specs.Written.{writes}
 use Rattle.dirf.specs.LineWriter.{cut, sum, lineOf, writing, lengthsDoNotAddUp, outputTooSmall, writerOrder, writeLine}
-use Rattle.dirf.proofs.Lists.{listed}
-use Rattle.dirf.proofs.Asked.{rule-kept, first-passes, nothing-found}
+use Rattle.dirf.proofs.tests.Lists.{listed}
+use Rattle.dirf.proofs.rules.Asked.{rule-kept, first-passes, nothing-found}
 use Rattle.rules.specs.declared.Finding.{Finding}
 use Rattle.rules.specs.Findings.{findingOf}
 use Rattle.rules.proofs.Laws.{finding-says}

@@ -12,7 +12,7 @@ use Rattle.dirf.specs.Edition.{Edition, isBase, nameOf, rowsOf}
 use Rattle.dirf.specs.Rules.{Found, Rule, gives, given, orElse, askedOf, over, ask, first}
 use Rattle.dirf.specs.Order.{contentsOf, wrongNumberOfFields, contents}
 use Rattle.dirf.specs.LineWriter.{sum, Writing, writing, noBaseKind, lengthsDoNotAddUp, outputTooSmall, writerOrder}
-use Rattle.dirf.proofs.RulesPut.{first-append, first-over}
+use Rattle.dirf.proofs.rules.RulesPut.{first-append, first-over}
 use Rattle.fields.specs.Places.{cellsAt, placesAlong}
 use Rattle.fields.proofs.Along.{along-cells}
 use Rattle.layout.specs.LaidOut.{Say}

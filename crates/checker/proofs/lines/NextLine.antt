@@ -15,9 +15,9 @@ use Rattle.dirf.specs.Lines.{clean, unclean, Piece, push, pieces}
 use Rattle.dirf.specs.Rules.{Found, keeps, breaks, given, orElse}
 use Rattle.dirf.specs.Order.{nothingOrCR}
 use Rattle.dirf.specs.Theorems.Plain.{NoLineEnd}
-use Rattle.dirf.proofs.CleanLaws.{clean-unclean, lineEnd-says, clean-none, clean-front, unclean-front, unclean-begins}
-use Rattle.dirf.proofs.Bools.{and-left, and-right, by-answer}
-use Rattle.dirf.proofs.WholeLaws.{pieces-front, rest-piece}
+use Rattle.dirf.proofs.breaches.CleanLaws.{clean-unclean, lineEnd-says, clean-none, clean-front, unclean-front, unclean-begins}
+use Rattle.dirf.proofs.tests.Bools.{and-left, and-right, by-answer}
+use Rattle.dirf.proofs.files.WholeLaws.{pieces-front, rest-piece}
 use Rattle.fields.specs.Places.{partOf}
 use Rattle.checker.specs.Lines.{endOf, numberAt}
 

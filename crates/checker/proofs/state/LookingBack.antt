@@ -16,13 +16,13 @@ use Rattle.dirf.specs.Theorems.Sound.{level}
 use Rattle.dirf.specs.Lines.{fields, field}
 use Rattle.dirf.specs.Rules.{given, orElse}
 use Rattle.dirf.specs.Keys.{hasKey, keyOf, keyLess, lastUnder, isSome, notAfter}
-use Rattle.dirf.proofs.Parents.{has-parent}
-use Rattle.dirf.proofs.OpenRecords.{first-line}
-use Rattle.dirf.proofs.Opened.{placed}
-use Rattle.dirf.proofs.LastOfKind.{lastOf, ifUnder, last-by-kind}
-use Rattle.dirf.proofs.Bools.{by-answer}
-use Rattle.dirf.proofs.Says.{isIn-says}
-use Rattle.dirf.proofs.Levels.{key-below, value-level}
+use Rattle.dirf.proofs.tree.Parents.{has-parent}
+use Rattle.dirf.proofs.tree.OpenRecords.{first-line}
+use Rattle.dirf.proofs.tree.Opened.{placed}
+use Rattle.dirf.proofs.tree.LastOfKind.{lastOf, ifUnder, last-by-kind}
+use Rattle.dirf.proofs.tests.Bools.{by-answer}
+use Rattle.dirf.proofs.tests.Says.{isIn-says}
+use Rattle.dirf.proofs.tree.Levels.{key-below, value-level}
 use Rattle.fields.specs.Places.{keyParts}
 use Rattle.fields.proofs.PlaceLaws.{key-of-cells}
 use Rattle.layout.specs.Tables.{kinds}

@@ -17,12 +17,12 @@ use Rattle.dirf.specs.Tree.{Rec, Open, opened, opening, declarant, place, paren
 use Rattle.dirf.specs.Tree.{mayStand}
 use Rattle.dirf.specs.Order.{closed}
 use Rattle.dirf.specs.Check.{bytesOf}
-use Rattle.dirf.proofs.History.{next}
-use Rattle.dirf.proofs.OpenRecords.{open-depth, Placed}
-use Rattle.dirf.proofs.Opened.{placed}
-use Rattle.dirf.proofs.LastOfKind.{lastOf}
-use Rattle.dirf.proofs.Bools.{by-answer}
-use Rattle.dirf.proofs.Levels.{opens-level}
+use Rattle.dirf.proofs.tree.History.{next}
+use Rattle.dirf.proofs.tree.OpenRecords.{open-depth, Placed}
+use Rattle.dirf.proofs.tree.Opened.{placed}
+use Rattle.dirf.proofs.tree.LastOfKind.{lastOf}
+use Rattle.dirf.proofs.tests.Bools.{by-answer}
+use Rattle.dirf.proofs.tree.Levels.{opens-level}
 use Rattle.fields.specs.Places.{partOf}
 use Rattle.layout.specs.Tables.{kinds}
 use Rattle.layout.specs.LaidOut.{SayBelow}

@@ -16,14 +16,14 @@ use Rattle.dirf.specs.Tree.{inOrder, isPlaced, mayStand}
 use Rattle.dirf.specs.Order.{closed}
 use Rattle.dirf.specs.Check.{bytesOf}
 use Rattle.dirf.specs.Theorems.Sound.{level, Sound}
-use Rattle.dirf.proofs.History.{History, start}
-use Rattle.dirf.proofs.Parents.{has-parent}
-use Rattle.dirf.proofs.OpenRecords.{open-depth, Placed}
-use Rattle.dirf.proofs.Opened.{placed, unheld}
-use Rattle.dirf.proofs.LastOfKind.{lastOf}
-use Rattle.dirf.proofs.Bools.{by-answer}
-use Rattle.dirf.proofs.Says.{isIn-says, below-or}
-use Rattle.dirf.proofs.Levels.{value-level, opens-level}
+use Rattle.dirf.proofs.tree.History.{History, start}
+use Rattle.dirf.proofs.tree.Parents.{has-parent}
+use Rattle.dirf.proofs.tree.OpenRecords.{open-depth, Placed}
+use Rattle.dirf.proofs.tree.Opened.{placed, unheld}
+use Rattle.dirf.proofs.tree.LastOfKind.{lastOf}
+use Rattle.dirf.proofs.tests.Bools.{by-answer}
+use Rattle.dirf.proofs.tests.Says.{isIn-says, below-or}
+use Rattle.dirf.proofs.tree.Levels.{value-level, opens-level}
 use Rattle.layout.specs.Tables.{kinds}
 use Rattle.layout.specs.LaidOut.{SayBelow}
 use Rattle.checker.specs.State.{deepest, startState, startPast, lastIn, above, heldIn, heldAt, orderAt, belowOn, standsOn, lastLine}

@@ -18,10 +18,10 @@ use Rattle.dirf.specs.Tree.{Rec, mayStand, parentOf}
 use Rattle.dirf.specs.Keys.{hasKey, lastUnder, isSome, notAfter}
 use Rattle.dirf.specs.Order.{Here, here, kindOfLine, closed, limits, lineEnds, kind, place, fieldCount, contents, line-opens}
 use Rattle.dirf.specs.Check.{refused}
-use Rattle.dirf.proofs.Bools.{by-answer}
-use Rattle.dirf.proofs.History.{table-length}
-use Rattle.dirf.proofs.Asked.{given-false, or-else-left, or-else-right}
-use Rattle.dirf.proofs.RulesPut.{or-assoc}
+use Rattle.dirf.proofs.tests.Bools.{by-answer}
+use Rattle.dirf.proofs.tree.History.{table-length}
+use Rattle.dirf.proofs.rules.Asked.{given-false, or-else-left, or-else-right}
+use Rattle.dirf.proofs.rules.RulesPut.{or-assoc}
 use Rattle.fields.specs.Places.{mostFields, partOf, placesOf, cellAt, cellsAt}
 use Rattle.fields.proofs.PlaceLaws.{places-count, places-cells}
 use Rattle.fields.proofs.Inside.{cell-is}

@@ -11,7 +11,7 @@ use Rattle.dirf.specs.Bytes.{Text, every}
 use Rattle.dirf.specs.Fields.{fieldOrder}
 use Rattle.dirf.specs.Rules.{Found, keeps, given}
 use Rattle.dirf.specs.Order.{contents}
-use Rattle.dirf.proofs.Asked.{Passes, or-else-passes, first-passes, nothing-found}
+use Rattle.dirf.proofs.rules.Asked.{Passes, or-else-passes, first-passes, nothing-found}
 use Rattle.fields.specs.declared.Places.{Places}
 use Rattle.rules.specs.Findings.{findingOf, contentsFound}
 use Rattle.rules.specs.declared.Finding.{Finding}

@@ -6,7 +6,7 @@ use lib.ListN.{length, drop, drop-of-length-le}
 use borrow.Author.Tests.{eq-eqb, ne-eqb}
 use Rattle.fields.specs.Places.{barIn}
 use Rattle.dirf.specs.Limits.{bar}
-use Rattle.dirf.proofs.Lists.{drop-on}
+use Rattle.dirf.proofs.tests.Lists.{drop-on}
 use Rattle.fields.proofs.bar_from.Statement.{statement}
 use Rattle.fields.proofs.bar_from.Tie as tie
 

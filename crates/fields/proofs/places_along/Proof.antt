@@ -7,7 +7,7 @@ use lib.ListN.{length, drop, length-set, drop-of-length-le}
 use Rattle.fields.specs.declared.Places.{Places}
 use Rattle.fields.specs.Places.{noPlaces, addPlace, alongFrom, placesAlong}
 use Rattle.fields.proofs.PlaceLaws.{Fifteen}
-use Rattle.dirf.proofs.Lists.{drop-on}
+use Rattle.dirf.proofs.tests.Lists.{drop-on}
 use Rattle.fields.proofs.places_along.Statement.{statement}
 use Rattle.fields.proofs.places_along.Tie as tie
 

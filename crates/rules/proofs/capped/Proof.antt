@@ -5,8 +5,8 @@ use native.Mathlib.Omega.{arith}
 use lib.ListN.{length, getD, drop}
 use Rattle.dirf.specs.Bytes.{isDigit}
 use Rattle.dirf.specs.Numbers.{valueAfter, valueOf}
-use Rattle.dirf.proofs.Says.{digit-says}
-use Rattle.dirf.proofs.Lists.{drop-on}
+use Rattle.dirf.proofs.tests.Says.{digit-says}
+use Rattle.dirf.proofs.tests.Lists.{drop-on}
 use Rattle.rules.proofs.Every.{every-here}
 use Rattle.rules.proofs.Values.{value-end, value-least}
 use Rattle.rules.proofs.capped.Statement.{statement}

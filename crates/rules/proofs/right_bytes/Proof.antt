@@ -6,7 +6,7 @@ use lib.ListN.{length, drop, drop-of-length-le}
 use Rattle.dirf.specs.Bytes.{Text, every}
 use Rattle.dirf.specs.Fields.{rightByte}
 use Rattle.layout.specs.Tables.{formatOf}
-use Rattle.dirf.proofs.Lists.{drop-on}
+use Rattle.dirf.proofs.tests.Lists.{drop-on}
 use Rattle.rules.proofs.right_bytes.Statement.{statement}
 use Rattle.rules.proofs.right_bytes.Tie as tie
 

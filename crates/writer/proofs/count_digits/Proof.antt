@@ -4,7 +4,7 @@ use mathlib.Core.Path.{_≡_, ap, _∙_}
 use native.Mathlib.Omega.{arith}
 use lib.ListN.{length}
 use Rattle.dirf.specs.Numbers.{decimal}
-use Rattle.dirf.proofs.NumbersBack.{nothing-written}
+use Rattle.dirf.proofs.back.NumbersBack.{nothing-written}
 use Rattle.writer.proofs.Digits.{count-on, count-most}
 use Rattle.writer.proofs.count_digits.Statement.{statement}
 use Rattle.writer.proofs.count_digits.Tie as tie

@@ -5,7 +5,7 @@ use mathlib.Core.List.{[], _++_}
 use native.Mathlib.Omega.{arith}
 use lib.ListN.{length, drop, length-set}
 use Rattle.dirf.specs.Numbers.{decimal}
-use Rattle.dirf.proofs.NumbersBack.{nothing-written}
+use Rattle.dirf.proofs.back.NumbersBack.{nothing-written}
 use Rattle.writer.proofs.Digits.{count-on, digit-put}
 use Rattle.writer.proofs.put_digits.Statement.{statement}
 use Rattle.writer.proofs.put_digits.Tie as tie

@@ -8,7 +8,7 @@ use borrow.Author.Tests.{le-ltb, eq-eqb, ne-eqb, eqb-false}
 use lib.Dec.{eqb}
 use Rattle.dirf.specs.Bytes.{bytes-opens}
 use Rattle.dirf.specs.Tree.{opening}
-use Rattle.dirf.proofs.Bools.{by-answer}
+use Rattle.dirf.proofs.tests.Bools.{by-answer}
 use Rattle.checker.specs.State.{standsOn}
 use Rattle.checker.proofs.state.stands.Statement.{statement}
 use Rattle.checker.proofs.state.stands.Tie as tie

@@ -1,0 +1,6 @@
+-- The test of each rule says what document 01's table says.
+pub mod CleanLaws
+pub mod FieldLaws
+pub mod TreeLaws
+pub mod KeysSay
+pub mod TestsSay

@@ -1,0 +1,6 @@
+-- Lists of rules: what they find, alone and put together.
+pub mod RulesPut
+pub mod Asked
+pub mod Given
+pub mod RuleLaws
+pub mod Columns

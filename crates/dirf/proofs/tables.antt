@@ -1,0 +1,5 @@
+-- The tables, and what they come to for an edition.
+pub mod Tables
+pub mod Base
+pub mod Edition2025
+pub mod Marked

@@ -1,0 +1,4 @@
+-- What computed tests say.
+pub mod Bools
+pub mod Lists
+pub mod Says

@@ -1,0 +1,39 @@
+-- Two tables that earlier checkers wrote, and that are not `Owned`: 01, "Where earlier checkers went wrong".
+use Prim.Native.Nat.{ℕ}
+use mathlib.Core.Path.{_≡_, refl, sym, _∙_}
+use mathlib.Core.Bool.{false, true≢false}
+use mathlib.Core.Logic.{⊎-elim}
+use mathlib.Core.List.{List, [], _∷_}
+use native.Mathlib.Omega.{arith}
+use Rattle.dirf.specs.Bytes.{isIn, bytes-opens}
+use Rattle.dirf.specs.Kinds.{Dirf, RESPO, DECPJ, IDREC, BPFDEC, PROC, SCP, belowSCP, beneficiaries, values, kinds-opens}
+use Rattle.dirf.specs.Check.{Entry}
+use Rattle.dirf.specs.Theorems.Plain.{_∈_}
+use Rattle.dirf.specs.Theorems.Whose.{Owned}
+use Rattle.dirf.proofs.tests.Says.{isIn-says}
+
+-- an entry of a kind and a parent; where it starts and how long it is does not matter here
+abbrev of : ℕ → ℕ → Entry
+of kind parent = record { kind = kind; start = 0; length = 0; parent = parent }
+
+not-in : (k : ℕ) (ks : List ℕ) → isIn k ks ≡ false → k ∈ ks → ⊥
+not-in k ks absent m = true≢false (sym (isIn-says k ks .1 m) ∙ absent)
+
+-- "Taking an IDREC after a PROC for the declarant's": line 5 is the IDREC, with parent 3, and its BPFDEC hangs below it
+abbrev pub declarantsIDREC : List Entry
+declarantsIDREC = of Dirf 0 ∷ of RESPO 0 ∷ of DECPJ 0 ∷ of PROC 3 ∷ of IDREC 3 ∷ of BPFDEC 5 ∷ []
+
+pub not-the-declarants : Owned declarantsIDREC → ⊥
+unfolding bytes-opens kinds-opens
+not-the-declarants o =
+    ⊎-elim (λ q. omega arith) (⊎-elim (not-in PROC beneficiaries refl) (not-in PROC values refl))
+    (o .idrec 5 (omega arith, omega arith) refl .between 4 (omega arith) (omega arith))
+
+-- a person of the declarant below an SCP
+abbrev pub personBelowSCP : List Entry
+personBelowSCP = of Dirf 0 ∷ of RESPO 0 ∷ of DECPJ 0 ∷ of SCP 3 ∷ of BPFDEC 4 ∷ []
+
+pub not-below-SCP : Owned personBelowSCP → ⊥
+unfolding bytes-opens kinds-opens
+not-below-SCP o =
+    not-in BPFDEC belowSCP refl (o .beneficiary 5 (omega arith, omega arith) (isIn-says BPFDEC beneficiaries .0 refl) .own-SCP refl)
