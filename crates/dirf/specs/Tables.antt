@@ -6,6 +6,7 @@ use mathlib.Core.List.{List, [], _∷_, _++_, map}
 use lib.Dec.{leb, eqb}
 use lib.ListN.{length}
 use Rattle.dirf.specs.Bytes.{if_then_else_, every}
+use Rattle.dirf.specs.Limits.{lineLimit}
 use Rattle.dirf.specs.Kinds.{IDREC, alone, blocks, beneficiaries, values, later}
 use Rattle.dirf.specs.Row.{Row, Format, C, N, D, Fill, fixed, variable, Holds, identifier, amount, months, ddd, telephone}
 use Rattle.dirf.specs.Row.{cpf, cnpj, cpfOrCnpj, plain, oneOf}
@@ -55,7 +56,7 @@ dateSized D r = isFixed (r .fill) && eqb (r .size) 8
 -- 01, "Fields": "Proved once over it: every size is from 1 to 150, and no record's longest line passes 1,024 bytes."
 pub record RowsRight (e : Edition) : Type 0 where
   pub sizes : (k : ℕ) → every (λ r. leb 1 (r .size) && leb (r .size) 150) (rowsOf e k) ≡ true
-  pub lines : (k : ℕ) → longest (rowsOf e k) ≤ 1024
+  pub lines : (k : ℕ) → longest (rowsOf e k) ≤ lineLimit
   pub held : (k : ℕ) → every (λ r. goesWith (r .holds) r) (rowsOf e k) ≡ true
   pub dates : (k : ℕ) → every (λ r. dateSized (r .format) r) (rowsOf e k) ≡ true
 

@@ -10,7 +10,7 @@ use lib.ListN.{length, length-append}
 use lib.Seq.{take-append-seam, drop-append-seam}
 use borrow.Author.Tests.{le-ltb, eq-eqb, eqb-true, not-false, not-true}
 use Rattle.dirf.specs.Bytes.{Text, every, some, isIn, isEmpty, endsWith}
-use Rattle.dirf.specs.Limits.{bar}
+use Rattle.dirf.specs.Limits.{bar, lineLimit}
 use Rattle.dirf.specs.Row.{Row, obligatory, optional, identifier}
 use Rattle.dirf.specs.Edition.{Edition, nameOf, rowsOf, isBase}
 use Rattle.dirf.specs.Lines.{Piece, pieces, clean, fields, field}
@@ -132,8 +132,9 @@ module _ (e : Edition) (sound : Sound e) (tests : TestsSay e) (k : ℕ) (cells :
   line-kept room before =
       let h = here e room before (wholeLine (joined cells)) in
       let whole = clean-whole (joined cells) line-clean in
-      let short : length (clean (joined cells)) ≤ 1024 = rw (whole, length-joined cells) (omega (arith, fit .1, sound .rows .lines k)) in
-      let k4 : lineTooLong h ≡ false = le-ltb 1024 _ short in
+      let short : length (clean (joined cells)) ≤ lineLimit =
+      rw (whole, length-joined cells) (omega (arith, fit .1, sound .rows .lines k)) in
+      let k4 : lineTooLong h ≡ false = le-ltb lineLimit _ short in
       let k5 : inputEnds h ≡ false = refl in
       let k6 : strayLineEnd h ≡ false = rw (nothing-unclean (joined cells) .1 line-clean) in
       let barred : endsWith bar (joined cells) ≡ true = rw (headed .1) (ends-joined (nameOf e k) (headed .0)) in

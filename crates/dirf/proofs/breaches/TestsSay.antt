@@ -9,7 +9,7 @@ use lib.Dec.{eqb}
 use lib.ListN.{length, length-append}
 use borrow.Author.Tests.{not-true}
 use Rattle.dirf.specs.Bytes.{Text, bytes, every, same, endsWith}
-use Rattle.dirf.specs.Limits.{bar}
+use Rattle.dirf.specs.Limits.{bar, lineLimit, linesLimit}
 use Rattle.dirf.specs.Kinds.{DECPF, FIMDirf, later, values, isLater, standsOnce}
 use Rattle.dirf.specs.Row.{Row}
 use Rattle.dirf.specs.Edition.{Edition, kindIn, kindOf}
@@ -70,18 +70,18 @@ module _ (h : Here) where
   says-2 = closed-says (h .before)
 
   -- 3
-  says-3 : Says (tooManyLines h) (65536 ≤ length (h .before))
+  says-3 : Says (tooManyLines h) (linesLimit ≤ length (h .before))
   unfolding tooManyLines lineNumber
-  says-3 = says-by (λ e. omega arith) (λ e. omega arith) (ltb-says 65536 (suc (length (h .before))))
+  says-3 = says-by (λ e. omega arith) (λ e. omega arith) (ltb-says linesLimit (suc (length (h .before))))
 
   -- 4
-  says-4 : Says (lineTooLong h) ((a : Text) × (b : Text) × (h .piece .body ≡ a ++ b) × NoLineEnd a × (1024 < length a))
+  says-4 : Says (lineTooLong h) ((a : Text) × (b : Text) × (h .piece .body ≡ a ++ b) × NoLineEnd a × (lineLimit < length a))
   unfolding lineTooLong
   says-4 =
       says-by
       (λ e. (clean (h .piece .body), unclean (h .piece .body), clean-unclean (h .piece .body), clean-none (h .piece .body), e))
       (λ q. rw (q .2, clean-front (q .0) (q .1) (q .3), length-append) (omega (arith, q .4)))
-      (ltb-says 1024 (length (clean (h .piece .body))))
+      (ltb-says lineLimit (length (clean (h .piece .body))))
 
   -- 5
   says-5 : Says (inputEnds h)

@@ -7,6 +7,7 @@ use native.Mathlib.Omega.{arith}
 use native.Mathlib.Nat.{zero-add}
 use lib.ListN.{length}
 use Rattle.dirf.specs.Bytes.{Text, isEmpty}
+use Rattle.dirf.specs.Limits.{linesLimit}
 use Rattle.dirf.specs.Edition.{Edition}
 use Rattle.dirf.specs.Lines.{Piece, pieces, unclean}
 use Rattle.dirf.specs.Rules.{keeps, first}
@@ -43,14 +44,14 @@ module _ (e : Edition) (sound : Sound e) (room : ℕ) where
   all-ended before (p ∷ ps) k = (line-ended before p (k .0), all-ended (recOf e before p ∷ before) ps (k .1))
 
   -- and within the limit and the room
-  recs-fit : (before : List Rec) (ps : List Piece) → length before ≤ room → length before ≤ 65536 → Kept e room before ps
-      → (length (recs e before ps) ≤ room) × (length (recs e before ps) ≤ 65536)
+  recs-fit : (before : List Rec) (ps : List Piece) → length before ≤ room → length before ≤ linesLimit → Kept e room before ps
+      → (length (recs e before ps) ≤ room) × (length (recs e before ps) ≤ linesLimit)
   unfolding here
   recs-fit before [] a b k = (a, b)
   recs-fit before (p ∷ ps) a b k =
       let right = right-exactly e sound room before p .0 (k .0) in
       let roomy : room < suc (length before) → ⊥ = λ h. right 7 0 (full h) in
-      let few : 65536 ≤ length before → ⊥ = λ h. right 3 0 (line-65537 h) in
+      let few : linesLimit ≤ length before → ⊥ = λ h. right 3 0 (line-65537 h) in
       recs-fit (recOf e before p ∷ before) ps (omega arith) (omega arith) (k .1)
 
   -- a refusal after some lines that were kept

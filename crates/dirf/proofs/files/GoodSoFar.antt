@@ -9,7 +9,7 @@ use native.Mathlib.Nat.{zero-add}
 use lib.ListN.{length}
 use borrow.Author.Tests.{ne-eqb}
 use Rattle.dirf.specs.Bytes.{Text}
-use Rattle.dirf.specs.Limits.{lineEnd}
+use Rattle.dirf.specs.Limits.{lineEnd, linesLimit}
 use Rattle.dirf.specs.Kinds.{FIMDirf}
 use Rattle.dirf.specs.Edition.{Edition}
 use Rattle.dirf.specs.Lines.{Piece, pieces}
@@ -76,7 +76,7 @@ module _ (e : Edition) (sound : Sound e) (room : ℕ) where
   unfolding closed recOf
   stays-open before line n = ne-eqb (kindOfLine e line) FIMDirf n
 
-  close3 : (before : List Rec) → 3 ≤ length before → closed before ≡ false → length before < 65536 → length before < room
+  close3 : (before : List Rec) → 3 ≤ length before → closed before ≡ false → length before < linesLimit → length before < room
       → (most : ℕ) → 1 ≤ most → Closes e room before most
   unfolding recOf
   close3 before h q m r most few =
@@ -90,7 +90,7 @@ module _ (e : Edition) (sound : Sound e) (room : ℕ) where
       (before : List Rec) → length before ≡ n → closed before ≡ false → 4 ≤ room → (most : ℕ) → more ≤ most → Closes e room before most
 
   before-it : (n more : ℕ) (line : Text) → n < 4 → kindOfLine e line ≢ FIMDirf
-      → ((before : List Rec) → length before ≡ n → (room : ℕ) → closed before ≡ false → length before < 65536 → length before < room
+      → ((before : List Rec) → length before ≡ n → (room : ℕ) → closed before ≡ false → length before < linesLimit → length before < room
       → first order (here e room before (wholeLine line)) ≡ keeps)
       → ClosedBy (suc n) more → ClosedBy n (suc more)
   before-it n more line small open′ after next before h q r most few =
@@ -106,7 +106,7 @@ module _ (e : Edition) (sound : Sound e) (room : ℕ) where
   close1 = before-it 1 2 (c .line2) (omega arith) (c .open2) (c .after1) close2
 
   -- whatever was read, if it is open and there is room for four more
-  closes : (before : List Rec) → closed before ≡ false → length before ≤ 65532 → length before + 4 ≤ room → Closes e room before 4
+  closes : (before : List Rec) → closed before ≡ false → length before + 4 ≤ linesLimit → length before + 4 ≤ room → Closes e room before 4
   closes before q few roomy = go (length before) refl
     where
       go : (n : ℕ) → length before ≡ n → Closes e room before 4

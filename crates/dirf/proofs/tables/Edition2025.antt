@@ -10,6 +10,7 @@ use lib.ListN.{length}
 use borrow.Author.Tests.{le-ltb}
 use Rattle.dirf.specs as specs
 use Rattle.dirf.specs.Bytes.{if_then_else_, bytes, every, isIn, lookup, bytes-opens}
+use Rattle.dirf.specs.Limits.{linesLimit}
 use Rattle.dirf.specs.Kinds.{DECPF, IDREC, SCP, declarants, blocks, withIDREC, belowSCP, isBeneficiary, kinds-opens}
 use Rattle.dirf.specs.Below.{underDECPF, underDECPJ, below2025}
 use Rattle.dirf.specs.Edition.{edition2025, edition-opens}
@@ -83,7 +84,7 @@ closable2025 =
       after1 = λ before e room c m r. simp (c, e, le-ltb room 2 (omega arith));
       after2 = λ before e room c m r. simp (c, e, le-ltb room 3 (omega arith));
       after3 = λ before h room c m r. let n = suc (length before) in
-          simp (c, le-ltb 65536 n (omega arith), le-ltb room n (omega arith), le-ltb (length before) 3 h);
+          simp (c, le-ltb linesLimit n (omega arith), le-ltb room n (omega arith), le-ltb (length before) 3 h);
       open1 = λ e. omega arith;
       open2 = λ e. omega arith;
       open3 = λ e. omega arith;

@@ -6,6 +6,7 @@ use mathlib.Core.List.{List, [], _∷_}
 use lib.Dec.{eqb, leb}
 use borrow.Author.Tests.{eqb-true, leb-true}
 use Rattle.dirf.specs.Bytes.{every, isIn, lookup, bytes-opens}
+use Rattle.dirf.specs.Limits.{lineLimit}
 use Rattle.dirf.specs.Kinds.{kinds-opens}
 use Rattle.dirf.specs.Row.{Row}
 use Rattle.dirf.specs.Layout.{layout2025}
@@ -38,7 +39,8 @@ unfolding bytes-opens edition-opens sum
 rows-right =
     record {
       sizes = λ k. in-group (every (λ r. leb 1 (r .size) && leb (r .size) 150)) refl layout2025 refl k;
-      lines = λ k. leb-true (longest (rowsOf edition2025 k)) 1024 (in-group (λ rs. leb (longest rs) 1024) refl layout2025 refl k);
+      lines = λ k.
+          leb-true (longest (rowsOf edition2025 k)) lineLimit (in-group (λ rs. leb (longest rs) lineLimit) refl layout2025 refl k);
       held = λ k. in-group (every (λ r. goesWith (r .holds) r)) refl layout2025 refl k;
       dates = λ k. in-group (every (λ r. dateSized (r .format) r)) refl layout2025 refl k;
     }

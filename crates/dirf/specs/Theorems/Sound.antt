@@ -7,6 +7,7 @@ use mathlib.Core.List.{List, [], _∷_, map}
 use lib.Dec.{eqb, ltb}
 use lib.ListN.{length}
 use Rattle.dirf.specs.Bytes.{if_then_else_, Text, every, isIn, lookup}
+use Rattle.dirf.specs.Limits.{linesLimit}
 use Rattle.dirf.specs.Kinds.{IDREC, SCP, FIMDirf, declarants, blocks, withIDREC, belowSCP, isValue, isBeneficiary, isBlock}
 use Rattle.dirf.specs.Row.{Row, Need, obligatory, optional, Holds, identifier, plain}
 use Rattle.dirf.specs.Edition.{Edition}
@@ -47,7 +48,7 @@ rising (k ∷ ks) = every (ltb k) ks && rising ks
 -- a line keeps every rule after some records, if it is not too late for any line
 abbrev pub KeptAfter : Edition → Text → List Rec → Type 0
 KeptAfter e line before =
-    (room : ℕ) → closed before ≡ false → length before < 65536 → length before < room
+    (room : ℕ) → closed before ≡ false → length before < linesLimit → length before < room
     → first order (here e room before (record { body = line; ended = true })) ≡ keeps
 
 -- four lines that close a file: one for each of the opening lines, and the last

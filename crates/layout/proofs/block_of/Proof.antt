@@ -16,7 +16,7 @@ use Rattle.layout.proofs.block_of.Tie as tie
 abbrev singles : List (List ℕ)
 singles = (56 ∷ []) ∷ (52 ∷ 54 ∷ []) ∷ (6 ∷ 44 ∷ []) ∷ []
 
-none : (d k : ℕ) → 74 ≤ k → 0 ≡ blockOf d k
+none : (d k : ℕ) → kinds ≤ k → 0 ≡ blockOf d k
 unfolding every blockOf
 none d k h = sym (lookup-past kinds k h 0 _ refl)
 
@@ -30,4 +30,4 @@ block-of-spec =
     (λ c. keys (blockOf (c .before .args .d)) 55 56 [] refl (c .match .keys3))
     (λ c. let d = c .before .before .before .args .d in search (needs, between (blockOf d) 48 singles 49 51 refl))
     (λ c. let d = c .before .before .args .d in search (needs, between (blockOf d) 0 singles 0 49 refl))
-    (λ c. let d = c .before .before .before .args .d in search (needs, from (blockOf d) 0 singles 51 74 refl (none d))))
+    (λ c. let d = c .before .before .before .args .d in search (needs, from (blockOf d) 0 singles 51 kinds refl (none d))))

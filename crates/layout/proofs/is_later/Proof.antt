@@ -22,7 +22,7 @@ is-later-spec =
     (λ c. search (needs, between isLater false singles 0 28 refl))
     (λ c. search (needs, between isLater false singles 30 45 refl))
     (λ c. search (needs, between isLater false singles 48 63 refl))
-    (λ c. search (needs, from isLater false singles 73 74 refl (λ k h. sym (isIn-past kinds k h later refl))))
+    (λ c. search (needs, from isLater false singles 73 kinds refl (λ k h. sym (isIn-past kinds k h later refl))))
     (λ c. keys isLater true 20 (24 ∷ []) refl (c .match .keys1))
     (λ c. search (needs, between isLater true singles 28 30 refl))
     (λ c. search (needs, between isLater true singles 45 48 refl))

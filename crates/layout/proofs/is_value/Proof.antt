@@ -24,7 +24,7 @@ is-value-spec =
     (λ c. search (needs, between isValue false singles 24 25 refl))
     (λ c. search (needs, between isValue false singles 28 30 refl))
     (λ c. search (needs, between isValue false singles 44 57 refl))
-    (λ c. search (needs, from isValue false singles 59 74 refl (λ k h. sym (isIn-past kinds k h values refl))))
+    (λ c. search (needs, from isValue false singles 59 kinds refl (λ k h. sym (isIn-past kinds k h values refl))))
     (λ c. keys isValue true 53 (61 ∷ []) refl (c .match .keys1))
     (λ c. search (needs, between isValue true singles 7 20 refl))
     (λ c. search (needs, between isValue true singles 21 24 refl))
