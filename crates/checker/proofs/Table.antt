@@ -6,10 +6,13 @@ use native.Mathlib.Omega.{arith}
 use lib.ListN.{length, take, drop, length-append, length-take}
 use lib.Seq.{sets-eq, take-append-seam, drop-append-add, drop-drop, take-all, take-append-le, length-front, length-take-le}
 use borrow.Author.Tests.{lt-ltb, le-ltb}
+use Rattle.dirf.specs.Bytes.{Text}
 use Rattle.dirf.specs.Limits.{numbersAnEntry}
+use Rattle.dirf.specs.Edition.{Edition}
 use Rattle.dirf.specs.Check.{Entry, entryNumbers, numbersOf, Verdict}
 use Rattle.dirf.proofs.tests.Says.{below-or}
-use Rattle.checker.specs.Answers.{withEntries, tableWithin, tableAfter, putEntry}
+use Rattle.checker.specs.Answers.{withEntries, tableWithin, tableAfter, putEntry, Judged}
+use Rattle.checker.specs.declared.Answer.{Answer}
 
 pub length-numbers : (es : List Entry) → length (numbersOf es) ≡ numbersAnEntry * length es
 unfolding numbersOf entryNumbers
@@ -64,9 +67,11 @@ module _ (t : List ℕ) (es : List Entry) where
   pub held-length : length (withEntries (take m es) t) ≡ length t
   held-length = with-length t (take m es) (omega (arith, length-take m es))
 
-pub within-length : (v : Verdict) (t : List ℕ) → length (tableWithin v t) ≡ length t
+-- a check leaves the table as long as it was
+pub judged-length : {e : Edition} {file : Text} {room : ℕ} {before after : List ℕ} {r : Answer} → Judged e file room before after r
+    → length after ≡ length before
 unfolding tableWithin
-within-length v t = held-length t (v .table)
+judged-length {before = t} j = ap length (j .entries) ∙ held-length t _
 
 -- where all of them fit, those are all
 pub all-within : (v : Verdict) (t : List ℕ) → length (v .table) ≤ length t / numbersAnEntry → tableWithin v t ≡ tableAfter v t

@@ -1,9 +1,8 @@
 -- Every entry of the verdict has room.
-use mathlib.Core.Path.{ap, _∙_}
-use lib.ListN.{length}
+use mathlib.Core.Path.{_∙_}
 use borrow.Author.Needs.{needs}
 use Rattle.dirf.proofs.Demands.{demands2025}
-use Rattle.checker.proofs.Table.{within-length, all-within}
+use Rattle.checker.proofs.Table.{judged-length, all-within}
 use Rattle.checker.proofs.check.Statement.{statement}
 use Rattle.checker.proofs.check.Tie as tie
 
@@ -12,5 +11,5 @@ check-spec =
     tie.close
     (tie.spec
     (λ c κs. search needs)
-    (λ c. ap length (c .before .before .judged .ensures .entries) ∙ within-length _ _)
+    (λ c. judged-length (c .before .before .judged .ensures))
     (λ c. let w = c .before .before .judged .ensures in (w .answer, w .entries ∙ all-within _ _ (demands2025 .counts _ _ .fits))))
