@@ -1,5 +1,5 @@
 -- Line 3 is no DECPF.
-use mathlib.Core.Path.{sym, ap, _∙_}
+use mathlib.Core.Path.{sym, _∙_}
 use borrow.Author.Needs.{needs}
 use Rattle.dirf.specs.Edition.{edition2025}
 use Rattle.layout.proofs.Edition2025.{other-table}
