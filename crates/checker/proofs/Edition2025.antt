@@ -10,8 +10,7 @@ use Rattle.layout.specs.LaidOut.{SayBelow}
 use Rattle.layout.proofs.Laws.{says, says-below}
 use Rattle.layout.proofs.Edition2025.{laidOut2025}
 use Rattle.checker.specs.Lines.{thirdKind}
-use Rattle.checker.specs.Answers.{SayAll, Answers, Leaves, Judged}
-use Rattle.checker.specs.declared.Answer.{Answer}
+use Rattle.checker.specs.Answers.{SayAll}
 
 pub say2025 : (file : Text) {names rows : List ℕ} {below : List (List ℕ)} → names ≡ nameTable edition2025 → rows ≡ rowTable edition2025
     → below ≡ belowTable edition2025 (thirdKind names file) → SayAll edition2025 names rows below file
@@ -21,9 +20,3 @@ say2025 file {names} n r b =
       say = rw (n, r) (says edition2025 laidOut2025);
       say-below = subst (SayBelow edition2025 (thirdKind names file)) (sym b) (says-below edition2025 laidOut2025 (thirdKind names file));
     }
-
--- so what the loop answers by them is the verdict of 2025
-pub judged2025 : {names rows : List ℕ} {below : List (List ℕ)} {file : Text} {room : ℕ} {before after : List ℕ} {r : Answer}
-    → SayAll edition2025 names rows below file → Answers names rows below file room r × Leaves names rows below file room before after
-    → Judged edition2025 file room before after r
-judged2025 all w = record { answer = w .0 edition2025 all; entries = w .1 edition2025 all }

@@ -16,13 +16,12 @@ use Rattle.dirf.specs.Theorems.Sound.{Sound}
 use Rattle.dirf.proofs.tree.History.{table-length}
 use Rattle.checker.specs.State.{startState, startPast, above, pastAfter, stateAfter}
 use Rattle.checker.specs.Turn.{entryOf, turnOf}
-use Rattle.checker.specs.Answers.{answerOf, entryOfCode, SayAll, withEntries, tableWithin, putEntry}
+use Rattle.checker.specs.Answers.{entryOfCode, SayAll, withEntries, tableWithin, putEntry, Judged}
 use Rattle.checker.specs.declared.Answer.{Answer}
 use Rattle.checker.specs.declared.state.Past.{Past}
 use Rattle.checker.specs.declared.state.State.{State}
 use Rattle.checker.specs.declared.turn.Stepped.{Stepped}
 use Rattle.checker.specs.declared.turn.Record.{Record}
-use Rattle.checker.proofs.turn.Outcome.{rec}
 use Rattle.checker.proofs.Table.{held-length, put-next}
 use Rattle.checker.proofs.Reading.{Reading, reading-start, Stops, Goes, Step, step}
 
@@ -47,10 +46,13 @@ module _ {e : Edition} {below : List (List ℕ)} {file : Text} {room : ℕ} {fir
   same-length = ap length (h .table) ∙ held-length first (tableOf (h .before))
 
   -- where the turn stops, or what it has read is refused, the answer is the verdict and the table is left as it is
-  pub answered : (a : Answer) → Stops (verdict e file room) (h .before) a
-      → (a ≡ answerOf (verdict e file room)) × (t ≡ tableWithin (verdict e file room) first)
+  pub answered : (a : Answer) → Stops (verdict e file room) (h .before) a → Judged e file room first t a
   unfolding tableWithin
-  answered a w = (w .answer, h .table ∙ ap (λ es. withEntries (take (length first / numbersAnEntry) es) first) (sym (w .table)))
+  answered a w =
+      record {
+        answer = w .answer;
+        entries = h .table ∙ ap (λ es. withEntries (take (length first / numbersAnEntry) es) first) (sym (w .table));
+      }
 
   pub turn-step : {names rows : List ℕ} → SayAll e names rows below file → (s : Stepped) → s ≡ turnOf names rows below file st
       → Step (h .reading) s

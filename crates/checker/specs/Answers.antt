@@ -51,15 +51,12 @@ pub record Tabled (names rows : List ℕ) (below : List (List ℕ)) (file : Text
   pub edition : Edition
   pub all : SayAll edition names rows below file
 
--- for every edition that the tables say: the answer, and what is left in the table
-abbrev pub Answers : List ℕ → List ℕ → List (List ℕ) → Text → ℕ → Answer → Type 0
-Answers names rows below file room r = (e : Edition) → SayAll e names rows below file → r ≡ answerOf (verdict e file room)
-
-abbrev pub Leaves : List ℕ → List ℕ → List (List ℕ) → Text → ℕ → List ℕ → List ℕ → Type 0
-Leaves names rows below file room before after =
-    (e : Edition) → SayAll e names rows below file → after ≡ tableWithin (verdict e file room) before
-
--- both, for one edition
+-- the answer, and what is left in the table
 pub record Judged (e : Edition) (file : Text) (room : ℕ) (before after : List ℕ) (r : Answer) : Type 0 where
   pub answer : r ≡ answerOf (verdict e file room)
   pub entries : after ≡ tableWithin (verdict e file room) before
+
+-- for every edition that the tables say
+abbrev pub JudgedAll : List ℕ → List ℕ → List (List ℕ) → Text → ℕ → List ℕ → List ℕ → Answer → Type 0
+JudgedAll names rows below file room before after r =
+    (e : Edition) → SayAll e names rows below file → Judged e file room before after r

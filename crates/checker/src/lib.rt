@@ -19,7 +19,7 @@ ghost use Rattle.dirf.specs.Edition.{edition2025};
 ghost use Rattle.dirf.specs.Check.{entryNumbers, verdict};
 ghost use Rattle.layout.specs.Tables.{nameTable};
 ghost use Rattle.checker.specs.Lines.{thirdKind};
-ghost use Rattle.checker.specs.Answers.{answerOf, tableAfter, entryOfCode, putEntry, Tabled, Answers, Leaves, Judged};
+ghost use Rattle.checker.specs.Answers.{answerOf, tableAfter, entryOfCode, putEntry, Tabled, Judged, JudgedAll};
 
 // Document 01: "The table has four 32-bit numbers a record".
 pub const NUMBERS_AN_ENTRY: usize = 4;
@@ -81,9 +81,8 @@ fn walk(
     table: &mut [u32],
 ) -> Answer
     requires { ⌜ Tabled (now names) (now rows) (now below) (now file) ⌝ }
-    ensures answer { λ r. ⌜ Answers (now (names .entry)) (now (rows .entry)) (now (below .entry)) (now (file .entry)) room r ⌝ }
-    ensures entries { λ r. ⌜ Leaves (now (names .entry)) (now (rows .entry)) (now (below .entry)) (now (file .entry)) room
-        (now (table .entry)) (now (table .exit)) ⌝ }
+    ensures { λ r. ⌜ JudgedAll (now (names .entry)) (now (rows .entry)) (now (below .entry)) (now (file .entry)) room
+        (now (table .entry)) (now (table .exit)) r ⌝ }
 {
     let mut st = state::start();
     let mut past = state::nothing();

@@ -59,30 +59,25 @@ kept : (c : tie.Else2 Inv-loop μ-loop) → let o = looked (c .before .before) i
 unfolding lastIn
 kept c = keeps-all _ (c .before .before .looked .ensures) (looked-numbered _ _ _ _) (c .if2 .left)
 
--- what holds of both for each edition holds of each for every edition
-both : {S : Edition → Type 0} {P Q : (e : Edition) → S e → Type 0} → ((e : Edition) (all : S e) → P e all × Q e all)
-    → ((e : Edition) (all : S e) → P e all) × ((e : Edition) (all : S e) → Q e all)
-both f = (λ e all. f e all .0, λ e all. f e all .1)
-
 returns : tie.Need-returns Inv-loop μ-loop
 returns c =
     let h = c .before .before .before .loop .inv in
     let u = c .before .before .turn in
-    both (λ e all. answered (h e all) _ (turn-step (h e all) all (u .result) (u .ensures) .stops (c .before .if1 .taken)))
+    λ e all. answered (h e all) _ (turn-step (h e all) all (u .result) (u .ensures) .stops (c .before .if1 .taken))
 
 returns-2 : tie.Need-returns-2 Inv-loop μ-loop
 unfolding lastIn
 returns-2 c =
     let o = looked (c .before .before .before) in
     let q = finding-says _ (c .before .before .before .looked .ensures) (c .before .if2 .taken) in
-    rw (c .refused .ensures) (both (λ e all. answered (o .before .before .loop .inv e all) _ (on o e all .refuses _ _ q)))
+    rw (c .refused .ensures) (λ e all. answered (o .before .before .loop .inv e all) _ (on o e all .refuses _ _ q))
 
 returns-3 : tie.Need-returns-3 Inv-loop μ-loop
 returns-3 c =
     let o = asked (c .before .before) in
     rw (c .refused2 .ensures)
-    (both (λ e all.
-    answered (o .before .before .loop .inv e all) _ (on o e all .full (kept (c .before .before .before)) (c .before .if3 .taken))))
+    (λ e all.
+    answered (o .before .before .loop .inv e all) _ (on o e all .full (kept (c .before .before .before)) (c .before .if3 .taken)))
 
 loop-again : tie.Need-loop-again Inv-loop μ-loop
 unfolding entryOf pastAfter

@@ -4,7 +4,7 @@ use borrow.Author.Needs.{needs}
 use Rattle.dirf.specs.Edition.{edition2025}
 use Rattle.layout.proofs.Edition2025.{other-table}
 use Rattle.checker.specs.Answers.{SayAll}
-use Rattle.checker.proofs.Edition2025.{say2025, judged2025}
+use Rattle.checker.proofs.Edition2025.{say2025}
 use Rattle.checker.proofs.Table.{judged-length}
 use Rattle.checker.proofs.walk_pj.Statement.{statement}
 use Rattle.checker.proofs.walk_pj.Tie as tie
@@ -22,5 +22,5 @@ walk-pj-spec =
     (λ c κs. search needs)
     (λ c κs. search needs)
     (λ c κs. record { edition = edition2025; all = all (c .before .before .before) })
-    (λ c. let w = c .before .before in judged-length (judged2025 (all (w .before .before .before .before)) (w .walk .ensures)))
-    (λ c. let w = c .before .before in judged2025 (all (w .before .before .before .before)) (w .walk .ensures)))
+    (λ c. let w = c .before .before in judged-length (w .walk .ensures edition2025 (all (w .before .before .before .before))))
+    (λ c. let w = c .before .before in w .walk .ensures edition2025 (all (w .before .before .before .before))))
