@@ -1,5 +1,6 @@
 -- The tables, and what they come to for an edition.
 pub mod Tables
 pub mod Base
+pub mod Tested
 pub mod Edition2025
 pub mod Marked

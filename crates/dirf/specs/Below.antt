@@ -48,5 +48,5 @@ underDECPJ =
     []
 
 -- 01, "The tree": "one table of yes and no, with the declarant's kind as a part of the question"
-unfoldable pub below2025 : ℕ → Children
-below2025 declarant = if eqb declarant DECPF then underDECPF else underDECPJ
+unfoldable pub byDeclarant : Children → Children → ℕ → Children
+byDeclarant pf pj declarant = if eqb declarant DECPF then pf else pj

@@ -7,7 +7,7 @@ use Rattle.dirf.specs.Bytes.{if_then_else_, Text, same, some, isIn, look
 use Rattle.dirf.specs.Kinds.{names2025, isLater}
 use Rattle.dirf.specs.Row.{Row}
 use Rattle.dirf.specs.Layout.{layout2025}
-use Rattle.dirf.specs.Below.{Children, below2025}
+use Rattle.dirf.specs.Below.{Children, underDECPF, underDECPJ, byDeclarant}
 
 pub record Edition : Type 0 where
   -- the kinds and their identifiers
@@ -18,7 +18,7 @@ pub record Edition : Type 0 where
   pub below : ℕ → Children
 
 unfoldable pub edition2025 : Edition
-edition2025 = record { names = names2025; layout = layout2025; below = below2025 }
+edition2025 = record { names = names2025; layout = layout2025; below = byDeclarant underDECPF underDECPJ }
 
 -- the kind that an identifier names; 0: unknown
 unfoldable pub kindIn : List (ℕ × Text) → Text → ℕ
@@ -45,5 +45,5 @@ isBase e k = some (λ n. eqb k (n .0)) (e .names) && not (isLater k)
 
 -- to compute with this file: `unfolding edition-opens`
 unfoldable pub edition-opens : Unit {0}
-unfolding below2025 edition2025 kindIn kindOf nameOf rowsIn rowsOf isBase
+unfolding byDeclarant edition2025 kindIn kindOf nameOf rowsIn rowsOf isBase
 edition-opens = tt

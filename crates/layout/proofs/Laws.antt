@@ -9,7 +9,7 @@ use lib.Dec.{eqb, ltb}
 use lib.ListN.{length, getD, drop}
 use lib.Seq.{getD-drop}
 use borrow.Author.Tests.{ltb-true, lt-ltb, le-ltb}
-use Rattle.dirf.specs.Bytes.{Text, every, some, same, isIn, lookup}
+use Rattle.dirf.specs.Bytes.{Text, every, some, those, same, isIn, lookup}
 use Rattle.dirf.specs.Row.{Row}
 use Rattle.dirf.specs.Edition.{Edition, kindIn, kindOf, nameOf, rowsOf, isBase}
 use Rattle.dirf.specs.Tree.{mayHold}
@@ -17,7 +17,7 @@ use Rattle.dirf.proofs.tests.Bools.{if-cases}
 use Rattle.dirf.proofs.tests.Says.{below-or}
 use Rattle.dirf.proofs.tables.Tables.{in-table}
 use Rattle.fields.specs.Places.{mostFields}
-use Rattle.layout.specs.Tables.{kinds, holders, nameIn, namesIn, baseIn, nameTable, rowBytes, recordBytes, rowIn, rowsIn, countIn}
+use Rattle.layout.specs.Tables.{kinds, holders, nameIn, namesIn, isNamed, baseIn, nameTable, rowBytes, recordBytes, rowIn, rowsIn, countIn}
 use Rattle.layout.specs.Tables.{byteIn, rowTable, recordOf, yes, yesIn, holdsIn, belowTable}
 use Rattle.layout.specs.LaidOut.{Say, SayBelow, isKind, LaidOut}
 use Rattle.layout.specs.Codes.{rowCodes, rowSaid}
@@ -33,9 +33,16 @@ kind-below (n ∷ ns) s e =
     (λ q. ltb-true (n .0) kinds (every-first (λ n. isKind (n .0)) n ns e))
     (λ q. kind-below ns s (every-rest (λ n. isKind (n .0)) n ns e))
 
+every-those : {A : Type 0} (test kept : A → Bool) (xs : List A) → every test xs ≡ true → every test (those kept xs) ≡ true
+unfolding every those
+every-those test kept [] e = refl
+every-those test kept (x ∷ xs) e =
+    let rest = every-those test kept xs (every-rest test x xs e) in
+    if-cases (λ ys. every test ys ≡ true) (kept x) (λ _. rw (every-first test x xs e) rest) (λ _. rest)
+
 pub kind-bound : (t : List ℕ) (s : Text) → kindIn (namesIn t) s < kinds
 unfolding every namesIn
-kind-bound t s = kind-below (namesIn t) s refl
+kind-bound t s = kind-below (namesIn t) s (every-those (λ n. isKind (n .0)) isNamed _ refl)
 
 pub row-said : (t : List ℕ) (k i : ℕ) → i < countIn t k → rowSaid (rowCodes t k i) ≡ rowIn t k i
 unfolding rowSaid rowCodes rowIn countIn

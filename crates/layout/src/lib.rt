@@ -382,6 +382,10 @@ pub fn name(names: &[u8; NAME_BYTES], k: u32) -> &[u8]
 pub fn kind_of(names: &[u8; NAME_BYTES], s: &[u8]) -> u32
     ensures { λ r. ⌜ r ≡ kindIn (namesIn (now (names .entry))) (now (s .entry)) ⌝ }
 {
+    // an empty slot is nobody's identifier
+    if s.len() == 0 {
+        return 0;
+    }
     let mut k: u32 = 1;
     while (k as usize) < KINDS {
         if fields::same(name(names, k), s) {

@@ -5,7 +5,7 @@ use native.Mathlib.Omega.{arith}
 use borrow.Author.Needs.{needs}
 use Rattle.dirf.specs.Edition.{kindIn}
 use Rattle.layout.specs.Tables.{kinds, namesIn}
-use Rattle.layout.proofs.Search.{kindFrom, kind-from, kind-here, kind-on, kind-none}
+use Rattle.layout.proofs.Search.{kindFrom, kind-empty, kind-from, kind-here, kind-on, kind-none}
 use Rattle.layout.proofs.kind_of.Statement.{statement}
 use Rattle.layout.proofs.kind_of.Tie as tie
 
@@ -21,21 +21,23 @@ kind-of-spec =
     (tie.spec
     Inv-loop
     μ-loop
-    (λ c. (omega arith, kind-from (c .before .args .names .now) (c .before .args .s .now)))
+    (λ c. kind-empty _ _ (c .if1 .taken))
+    (λ c. let a = c .before .before .args in (omega arith, kind-from (a .names .now) (a .s .now)))
     (λ c. search needs)
     (λ c κs. search needs)
     (λ c κs. search needs)
     (λ c.
     let l = c .before .before .before .before in
-    let a = l .before .before .args in
-    sym (l .loop .inv .1 ∙ kind-here (a .names .now) (a .s .now) (l .loop .k) (omega arith) (cc)))
+    let e = l .before in
+    let a = e .before .before .args in
+    sym (l .loop .inv .1 ∙ kind-here (a .names .now) (a .s .now) (l .loop .k) (omega arith) (e .if1 .left) (cc)))
     (λ c. omega arith)
     (λ c. omega arith)
     (λ c.
     let l = c .before .before .before .before in
-    let a = l .before .before .args in
+    let a = l .before .before .before .args in
     (omega arith, l .loop .inv .1 ∙ kind-on (a .names .now) (a .s .now) (l .loop .k) (omega arith) (cc)))
     (λ c.
     let l = c .before in
-    let a = l .before .before .args in
+    let a = l .before .before .before .args in
     sym (l .loop .inv .1 ∙ kind-none (a .names .now) (a .s .now) (l .loop .k) (omega arith))))

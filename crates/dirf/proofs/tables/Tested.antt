@@ -1,0 +1,111 @@
+-- An edition is sound by computed tests over its tables, and by four lines that close a file.
+use Prim.Native.Nat.{ℕ, _<_}
+use mathlib.Core.Path.{_≡_, refl, sym, _∙_}
+use mathlib.Core.Bool.{Bool, true, false, _&&_, _||_, not, true≢false}
+use mathlib.Core.Logic.{_⊎_, ⊎-elim}
+use mathlib.Core.List.{List, [], map}
+use lib.Dec.{eqb, ltb, leb}
+use borrow.Author.Tests.{leb-true}
+use Rattle.dirf.specs.Bytes.{if_then_else_, every, isIn, lookup}
+use Rattle.dirf.specs.Limits.{lineLimit}
+use Rattle.dirf.specs.Kinds.{DECPF, IDREC, SCP, declarants, blocks, withIDREC, belowSCP, isBeneficiary}
+use Rattle.dirf.specs.Row.{obligatory, identifier}
+use Rattle.dirf.specs.Below.{Children, byDeclarant}
+use Rattle.dirf.specs.Edition.{Edition, rowsOf}
+use Rattle.dirf.specs.LineWriter.{sum}
+use Rattle.dirf.specs.Tables.{longest, goesWith, dateSized, RowsRight, KindsRight}
+use Rattle.dirf.specs.Theorems.Plain.{_∈_}
+use Rattle.dirf.specs.Theorems.Sound.{level, Nested, rising, firstOf, Closable, Sound}
+use Rattle.dirf.proofs.tests.Bools.{and-left, and-right, or-cases, if-cases}
+use Rattle.dirf.proofs.tests.Says.{Says, says, isIn-says}
+use Rattle.dirf.proofs.tests.Lists.{every-in}
+use Rattle.dirf.proofs.tables.Tables.{in-group, in-table}
+
+-- what is asked of a record of kind k below one of kind h
+unfoldable pub nests : ℕ → ℕ → Bool
+nests h k =
+    ltb (level h) (level k)
+    && (if eqb (level k) 4 then eqb (level h) 3 else true)
+    && (if eqb (level k) 3 then eqb (level h) 2 else true)
+    && (if eqb h SCP then isIn k belowSCP else true)
+    && (if eqb k IDREC then isIn h withIDREC || isIn h declarants else true)
+    && (if isIn k blocks then isIn h declarants else true)
+
+-- and of all that the lists have below one of kind h: they nest, and kind numbers rise, but below a beneficiary
+unfoldable pub belowTest : ℕ → List ℕ → Bool
+belowTest h ks = every (nests h) ks && (rising ks || isBeneficiary h)
+
+pub record Tested (e : Edition) (pf pj : Children) : Type 0 where
+  pub lists : e .below ≡ byDeclarant pf pj
+  -- of the rows of each group
+  pub sizes : every (λ g. every (λ r. leb 1 (r .size) && leb (r .size) 150) (g .1)) (e .layout) ≡ true
+  pub lines : every (λ g. leb (longest (g .1)) lineLimit) (e .layout) ≡ true
+  pub held : every (λ g. every (λ r. goesWith (r .holds) r) (g .1)) (e .layout) ≡ true
+  pub dates : every (λ g. every (λ r. dateSized (r .format) r) (g .1)) (e .layout) ≡ true
+  pub kinds : KindsRight e
+  pub numbered : every (λ n. not (eqb (n .0) 0)) (e .names) ≡ true
+  pub identified : map (λ g. firstOf (g .1)) (e .layout) ≡ map (λ g. (obligatory, identifier)) (e .layout)
+  pub below-DECPF : every (λ r. belowTest (r .0) (r .1)) pf ≡ true
+  pub below-DECPJ : every (λ r. belowTest (r .0) (r .1)) pj ≡ true
+
+nested-of : (h k : ℕ) → nests h k ≡ true → Nested h k
+unfolding nests
+nested-of h k e =
+    let parts : Says (nests h k)
+    ((((((level h < level k) × (level k ≡ 4 → level h ≡ 3)) × (level k ≡ 3 → level h ≡ 2)) × (h ≡ SCP → k ∈ belowSCP))
+    × (k ≡ IDREC → (h ∈ withIDREC) ⊎ (h ∈ declarants))) × (k ∈ blocks → h ∈ declarants)) = search says depth 20 in
+    let n = parts .0 e in
+    record {
+      deeper = n .0 .0 .0 .0 .0;
+      of-beneficiary = n .0 .0 .0 .0 .1;
+      of-IDREC-or-SCP = n .0 .0 .0 .1;
+      of-SCP = n .0 .0 .1;
+      of-block-or-declarant = n .0 .1;
+      of-declarant = n .1;
+    }
+
+module _ {e : Edition} {pf pj : Children} (t : Tested e pf pj) where
+  rows-right : RowsRight e
+  unfolding rowsOf every sum
+  rows-right =
+      record {
+        sizes = in-group (every (λ r. leb 1 (r .size) && leb (r .size) 150)) refl (e .layout) (t .sizes);
+        lines = λ k.
+            leb-true (longest (rowsOf e k)) lineLimit (in-group (λ rs. leb (longest rs) lineLimit) refl (e .layout) (t .lines) k);
+        held = in-group (every (λ r. goesWith (r .holds) r)) refl (e .layout) (t .held);
+        dates = in-group (every (λ r. dateSized (r .format) r)) refl (e .layout) (t .dates);
+      }
+
+  -- of either declarant's list
+  below-tested : (d h : ℕ) → belowTest h (lookup [] (e .below d) h) ≡ true
+  unfolding byDeclarant belowTest every rising
+  below-tested d h =
+      rw (t .lists)
+      (if-cases (λ l. belowTest h (lookup [] l h) ≡ true) (eqb d DECPF) (λ _. in-table belowTest [] (λ h. refl) pf (t .below-DECPF) h)
+      (λ _. in-table belowTest [] (λ h. refl) pj (t .below-DECPJ) h))
+
+  nested : (d h k : ℕ) → isIn k (lookup [] (e .below d) h) ≡ true → Nested h k
+  unfolding belowTest
+  nested d h k m =
+      let ks : List ℕ = lookup [] (e .below d) h in
+      nested-of h k (every-in (nests h) (isIn-says k ks .0 m) (and-left _ (rising ks || isBeneficiary h) (below-tested d h)))
+
+  -- the order of kind numbers is the order of the lists, but below a beneficiary
+  ordered : (d h : ℕ) → isBeneficiary h ≡ false → rising (lookup [] (e .below d) h) ≡ true
+  unfolding belowTest
+  ordered d h other =
+      let ks : List ℕ = lookup [] (e .below d) h in
+      ⊎-elim (λ r. r) (λ b. absurd (true≢false (sym b ∙ other)))
+      (or-cases (rising ks) (isBeneficiary h) (and-right (every (nests h) ks) _ (below-tested d h)))
+
+  pub sound : Closable e → Sound e
+  sound c =
+      record {
+        rows = rows-right;
+        kinds = t .kinds;
+        numbered = t .numbered;
+        identified = t .identified;
+        nested = nested;
+        ordered = ordered;
+        closable = c;
+      }
