@@ -5,3 +5,4 @@ pub mod Answered
 pub mod Counts
 pub mod Entries
 pub mod GoodSoFar
+pub mod Files

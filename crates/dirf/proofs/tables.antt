@@ -2,5 +2,5 @@
 pub mod Tables
 pub mod Base
 pub mod Tested
-pub mod Edition2025
+pub mod Editions
 pub mod Marked

@@ -1,13 +1,14 @@
--- Which record may stand directly below which: 004's structure lists 2.1 (DECPF) and 2.2 (DECPJ), records of the base only.
+-- Which record may stand directly below which: the structure lists 2.1 (DECPF) and 2.2 (DECPJ) of 004, and of 000 for the older
+-- edition, records of the base only.
 -- What 000's indents put under INFPC and INFPA is not here: those two are left for later.
 use Prim.Native.Nat.{ℕ}
-use mathlib.Core.List.{List, [], _∷_}
+use mathlib.Core.List.{List, [], _∷_, map}
 use lib.Dec.{eqb}
-use Rattle.dirf.specs.Bytes.{if_then_else_}
+use Rattle.dirf.specs.Bytes.{if_then_else_, those}
 use Rattle.dirf.specs.Kinds.{DECPF, DECPJ, IDREC, BPFDEC, RTRT, RTPO, RTDP, RTDS, RTIRF, CJAC, CJAA, ESRT, ESPO, ESDP, ESDS}
 use Rattle.dirf.specs.Kinds.{ESIR, ESDJ, RTPP, RTFA, RTSP, ESPP, ESFA, ESSP, RTPA, ESPA, RIDAC, RIIRP, RIAP, RIMOG, RIP65}
 use Rattle.dirf.specs.Kinds.{RIBMR, RICAP, RIRPC, RIL96, RIPTS, RIJMRE, RIO, BPJDEC, FCI, BPFFCI, BPJFCI, PROC, BPFPROC}
-use Rattle.dirf.specs.Kinds.{RIRSR, BPJPROC, RRA, BPFRRA, DAJUD, QTMESES, SCP, BPFSCP, RISCP, BPJSCP}
+use Rattle.dirf.specs.Kinds.{RIRSR, BPJPROC, RRA, BPFRRA, DAJUD, QTMESES, SCP, BPFSCP, RISCP, BPJSCP, in2022}
 
 -- a parent, and the records that may stand directly below it
 abbrev pub Children : Type 0
@@ -46,6 +47,10 @@ underDECPJ =
     (BPFSCP, RISCP ∷ []) ∷
     (BPJSCP, RISCP ∷ []) ∷
     []
+
+-- 000, lists 2.1 and 2.2: RTDS and ESDS stand nowhere, all else stands where 004's lists have it
+unfoldable pub lists2022 : Children → Children
+lists2022 = map (λ r. (r .0, those in2022 (r .1)))
 
 -- 01, "The tree": "one table of yes and no, with the declarant's kind as a part of the question"
 unfoldable pub byDeclarant : Children → Children → ℕ → Children

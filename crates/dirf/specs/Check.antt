@@ -6,6 +6,7 @@ use Rattle.dirf.specs.Bytes.{if_then_else_, Text}
 use Rattle.dirf.specs.Limits.{lineEnd}
 use Rattle.dirf.specs.Edition.{Edition}
 use Rattle.dirf.specs.Lines.{Piece, pieces}
+use Rattle.dirf.specs.Editions.{editionOf}
 use Rattle.dirf.specs.Rules.{Found, keeps, breaks, first}
 use Rattle.dirf.specs.Tree.{Rec, parentOf}
 use Rattle.dirf.specs.Order.{here, kindOfLine, closed, order}
@@ -76,11 +77,15 @@ unfoldable pub run : Edition → ℕ → List Rec → List Piece → Verdict
 run e room before [] = noBytesLeft before
 run e room before (p ∷ ps) = afterLine before (breach e room before p) (run e room (recOf e before p ∷ before) ps)
 
--- the answer to a file, with room for so many entries
+-- the answer to a file by the rules of an edition, with room for so many entries
 unfoldable pub verdict : Edition → Text → ℕ → Verdict
 verdict e file room = run e room [] (pieces file)
 
+-- 02, A4: the answer to a file is the verdict of its own edition
+unfoldable pub answerTo : Text → ℕ → Verdict
+answerTo file room = verdict (editionOf file) file room
+
 -- to compute with this file: `unfolding check-opens`
 unfoldable pub check-opens : Unit {0}
-unfolding bytesOf entryOf tableOf entryNumbers numbersOf refused accepted noBytesLeft recOf breach afterLine run verdict
+unfolding bytesOf entryOf tableOf entryNumbers numbersOf refused accepted noBytesLeft recOf breach afterLine run verdict answerTo
 check-opens = tt

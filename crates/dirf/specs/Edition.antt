@@ -1,13 +1,14 @@
--- An edition of the layout: all that the published documents fix, as one argument. The base has one, of 2025.
+-- An edition of the layout: all that the published documents fix, as one argument. There are two: of 2025, and the older one of
+-- document 000, which late filers use.
 use Prim.Native.Nat.{ℕ}
 use mathlib.Core.Bool.{Bool, _&&_, not}
 use mathlib.Core.List.{List, [], _∷_}
 use lib.Dec.{eqb}
 use Rattle.dirf.specs.Bytes.{if_then_else_, Text, same, some, isIn, lookup}
-use Rattle.dirf.specs.Kinds.{names2025, isLater}
+use Rattle.dirf.specs.Kinds.{names2025, names2022, isLater}
 use Rattle.dirf.specs.Row.{Row}
-use Rattle.dirf.specs.Layout.{layout2025}
-use Rattle.dirf.specs.Below.{Children, underDECPF, underDECPJ, byDeclarant}
+use Rattle.dirf.specs.Layout.{layout2025, layout2022}
+use Rattle.dirf.specs.Below.{Children, underDECPF, underDECPJ, lists2022, byDeclarant}
 
 pub record Edition : Type 0 where
   -- the kinds and their identifiers
@@ -19,6 +20,9 @@ pub record Edition : Type 0 where
 
 unfoldable pub edition2025 : Edition
 edition2025 = record { names = names2025; layout = layout2025; below = byDeclarant underDECPF underDECPJ }
+
+unfoldable pub edition2022 : Edition
+edition2022 = record { names = names2022; layout = layout2022; below = byDeclarant (lists2022 underDECPF) (lists2022 underDECPJ) }
 
 -- the kind that an identifier names; 0: unknown
 unfoldable pub kindIn : List (ℕ × Text) → Text → ℕ
@@ -45,5 +49,5 @@ isBase e k = some (λ n. eqb k (n .0)) (e .names) && not (isLater k)
 
 -- to compute with this file: `unfolding edition-opens`
 unfoldable pub edition-opens : Unit {0}
-unfolding byDeclarant edition2025 kindIn kindOf nameOf rowsIn rowsOf isBase
+unfolding lists2022 byDeclarant edition2025 edition2022 kindIn kindOf nameOf rowsIn rowsOf isBase
 edition-opens = tt

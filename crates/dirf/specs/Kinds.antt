@@ -1,8 +1,8 @@
 -- The 73 kinds of record: their numbers, their identifiers, and what each is.
 use Prim.Native.Nat.{ℕ}
-use mathlib.Core.Bool.{Bool}
+use mathlib.Core.Bool.{Bool, not}
 use mathlib.Core.List.{List, [], _∷_}
-use Rattle.dirf.specs.Bytes.{Text, bytes, isIn}
+use Rattle.dirf.specs.Bytes.{Text, bytes, those, isIn}
 
 -- 01, "Lines and limits": "Kind numbers are fixed in docs/, from 1, in the order in which 004's list 2.2 first names them, those left
 -- for later counted too, DECPF standing before DECPJ."
@@ -303,6 +303,17 @@ names2025 =
     (FIMDirf, bytes "FIMDirf") ∷
     []
 
+-- 02, A4: "no RTDS or ESDS" in the older edition
+abbrev pub only2025 : List ℕ
+only2025 = RTDS ∷ ESDS ∷ []
+
+unfoldable pub in2022 : ℕ → Bool
+in2022 k = not (isIn k only2025)
+
+-- 000, lists 2.1 and 2.2: every other identifier is in both editions, and has its number in both
+abbrev pub names2022 : List (ℕ × Text)
+names2022 = those (λ n. in2022 (n .0)) names2025
+
 -- 01, "What the checker covers": "Left for later: VPEIM, INFPC, INFPA, PSE, RPDE, INF and all records that stand only below these."
 unfoldable pub later : List ℕ
 later =
@@ -368,5 +379,5 @@ standsOnce k = isIn k values
 
 -- to compute with this file: `unfolding kinds-opens`
 unfoldable pub kinds-opens : Unit {0}
-unfolding later blocks beneficiaries values isLater isBlock isBeneficiary isValue opensNothing standsOnce
+unfolding in2022 later blocks beneficiaries values isLater isBlock isBeneficiary isValue opensNothing standsOnce
 kinds-opens = tt

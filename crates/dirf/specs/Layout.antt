@@ -1,20 +1,21 @@
--- The field rows of the 56 records of the base, 561 in all, in the sources' order and grouped as the sources group them.
--- 3.1 to 3.3 are 004's, all others 000's. Beside each row stand its number and its name in the source.
+-- The field rows of the records of the base, in the sources' order and grouped as the sources group them: in the edition of 2025 56
+-- records with 561 rows, in the older one 54 with 533. Of 2025 3.1 to 3.3 are 004's, all others 000's; of the older edition all are
+-- 000's, and but for 3.1 they are the same rows. Beside each row stand its number and its name in the source.
 use Prim.Native.Nat.{ℕ}
-use mathlib.Core.List.{List, [], _∷_}
+use mathlib.Core.List.{List, [], _∷_, map}
 use lib.ListN.{replicate}
-use Rattle.dirf.specs.Bytes.{bytes}
+use Rattle.dirf.specs.Bytes.{Text, bytes, those}
 use Rattle.dirf.specs.Row.{Row, row, C, N, D, fixed, variable, obligatory, optional, identifier, amount, months, ddd}
 use Rattle.dirf.specs.Row.{telephone, cpf, cnpj, cpfOrCnpj, plain, oneOf, sOrN}
 use Rattle.dirf.specs.Kinds.{Dirf, RESPO, DECPF, DECPJ, IDREC, BPFDEC, RTRT, RTPO, RTDP, RTDS, RTIRF, CJAC, CJAA, ESRT}
 use Rattle.dirf.specs.Kinds.{ESPO, ESDP, ESDS, ESIR, ESDJ, RTPP, RTFA, RTSP, ESPP, ESFA, ESSP, RTPA, ESPA, RIDAC, RIIRP}
 use Rattle.dirf.specs.Kinds.{RIAP, RIMOG, RIP65, RIBMR, RICAP, RIRPC, RIL96, RIPTS, RIJMRE, RIO, BPJDEC, FCI, BPFFCI}
 use Rattle.dirf.specs.Kinds.{BPJFCI, PROC, BPFPROC, RIRSR, BPJPROC, RRA, BPFRRA, DAJUD, QTMESES, SCP, BPFSCP, RISCP, BPJSCP}
-use Rattle.dirf.specs.Kinds.{FIMDirf}
+use Rattle.dirf.specs.Kinds.{FIMDirf, in2022}
 
 -- 004, 3.1, and 01, "Fields": "Dirf: fields 2, 3 and 6 are 2025, 2024 and R6GP3ZA; field 4 is S or N; field 5 may be empty."
-abbrev pub dirfRows : List Row
-dirfRows =
+abbrev pub dirfRows2025 : List Row
+dirfRows2025 =
     row C fixed 4 obligatory identifier ∷  -- 1 Identificador de registro
     row N fixed 4 obligatory (oneOf (bytes "2025" ∷ [])) ∷  -- 2 Ano referência
     row N fixed 4 obligatory (oneOf (bytes "2024" ∷ [])) ∷  -- 3 Ano-calendário
@@ -23,7 +24,22 @@ dirfRows =
     row C fixed 7 obligatory (oneOf (bytes "R6GP3ZA" ∷ [])) ∷  -- 6 Identificador de estrutura do leiaute
     []
 
--- 004, 3.2, and 01, "Fields": "RESPO: DDD does not begin with 0; telephone, and fax where filled, has 8 or 9 digits."
+-- 000, 3.1, field 6: what says that a file is of the older edition
+abbrev pub mark2022 : Text
+mark2022 = bytes "XJFSFHB"
+
+-- 000, 3.1. 02, A4: "its own year, calendar year and layout mark in record 3.1"
+abbrev pub dirfRows2022 : List Row
+dirfRows2022 =
+    row C fixed 4 obligatory identifier ∷  -- 1 Identificador de registro
+    row N fixed 4 obligatory (oneOf (bytes "2022" ∷ [])) ∷  -- 2 Ano referência
+    row N fixed 4 obligatory (oneOf (bytes "2021" ∷ bytes "2022" ∷ [])) ∷  -- 3 Ano-calendário
+    row C fixed 1 obligatory sOrN ∷  -- 4 Indicador de retificadora
+    row N fixed 12 optional plain ∷  -- 5 Número do recibo
+    row C fixed 7 obligatory (oneOf (mark2022 ∷ [])) ∷  -- 6 Identificador de estrutura do leiaute
+    []
+
+-- 004 and 000, 3.2, and 01, "Fields": "RESPO: DDD does not begin with 0; telephone, and fax where filled, has 8 or 9 digits."
 abbrev pub respoRows : List Row
 respoRows =
     row C fixed 5 obligatory identifier ∷  -- 1 Identificador de registro
@@ -36,7 +52,7 @@ respoRows =
     row C variable 50 optional plain ∷  -- 8 Correio eletrônico
     []
 
--- 004, 3.3
+-- 004 and 000, 3.3
 abbrev pub decpfRows : List Row
 decpfRows =
     row C fixed 5 obligatory identifier ∷  -- 1 Identificador de registro
@@ -237,10 +253,9 @@ fimdirfRows =
     row C fixed 7 obligatory identifier ∷  -- 1 Identificador de registro
     []
 
--- which records have which rows. 01, "What the checker covers": "RTDS and ESDS, which 000 lacks, take RTDP's field rows"
-abbrev pub layout2025 : List (List ℕ × List Row)
-layout2025 =
-    (Dirf ∷ [], dirfRows) ∷
+-- which records have which rows, from 3.2 on. 01, "What the checker covers": "RTDS and ESDS, which 000 lacks, take RTDP's field rows"
+abbrev pub afterDirf : List (List ℕ × List Row)
+afterDirf =
     (RESPO ∷ [], respoRows) ∷
     (DECPF ∷ [], decpfRows) ∷
     (DECPJ ∷ [], decpjRows) ∷
@@ -267,3 +282,9 @@ layout2025 =
     (BPJSCP ∷ [], bpjscpRows) ∷
     (FIMDirf ∷ [], fimdirfRows) ∷
     []
+
+abbrev pub layout2025 : List (List ℕ × List Row)
+layout2025 = (Dirf ∷ [], dirfRows2025) ∷ afterDirf
+
+abbrev pub layout2022 : List (List ℕ × List Row)
+layout2022 = (Dirf ∷ [], dirfRows2022) ∷ map (λ g. (those in2022 (g .0), g .1)) afterDirf

@@ -7,6 +7,7 @@ pub mod Layout
 pub mod Below
 pub mod Edition
 pub mod Lines
+pub mod Editions
 pub mod Numbers
 pub mod Fields
 pub mod Conditions

@@ -10,8 +10,7 @@ use Rattle.dirf.specs.Row.{Row, row, N, fixed, optional, plain}
 use Rattle.dirf.specs.Layout.{respoRows, decpfRows}
 use Rattle.dirf.specs.Fields.{fieldOrder}
 use Rattle.dirf.specs.Rules.{Found, keeps, breaks, askField}
-use Rattle.dirf.specs.Edition.{edition2025}
-use Rattle.dirf.specs.Check.{verdict}
+use Rattle.dirf.specs.Check.{answerTo}
 use Rattle.dirf.specs.Amounts.{readAmount}
 
 -- lines, each with its line end
@@ -46,7 +45,7 @@ numberFound (breaks number field) = number ∷ []
 
 -- number, line, field, entries; number and value; number
 unfoldable pub answer : Question → List ℕ
-answer (file s) = let v = verdict edition2025 s deskEntries in v .number ∷ v .line ∷ v .field ∷ length (v .table) ∷ []
+answer (file s) = let v = answerTo s deskEntries in v .number ∷ v .line ∷ v .field ∷ length (v .table) ∷ []
 answer (amount s) = readAmount s .number ∷ readAmount s .value ∷ []
 answer (fieldAs r s) = numberFound (askField 0 fieldOrder [] r s)
 

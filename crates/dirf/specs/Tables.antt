@@ -83,12 +83,9 @@ pub record KindsRight (e : Edition) : Type 0 where
   -- a kind has field rows exactly when it is in the base
   pub laidOut : every (λ k. eqb (if isBase e k then 1 else 0) (if leb 1 (length (rowsOf e k)) then 1 else 0)) (kindsOf e) ≡ true
 
--- 73 kinds, 56 of them in the base, 561 field rows; the longest line is one of 211 bytes
-abbrev pub Counted : Edition → Type 0
-Counted e =
-    length (kindsOf e)
-    ∷ count (isBase e) (kindsOf e)
-    ∷ sum (map (λ k. length (rowsOf e k)) (kindsOf e))
-    ∷ largestOf (map (λ k. longest (rowsOf e k)) (kindsOf e))
-    ∷ []
-    ≡ 73 ∷ 56 ∷ 561 ∷ 211 ∷ []
+-- kinds, how many of them are in the base, their field rows, and the bytes of the longest line
+pub record Counted (e : Edition) (kinds base rows bytes : ℕ) : Type 0 where
+  pub all : length (kindsOf e) ≡ kinds
+  pub taken : count (isBase e) (kindsOf e) ≡ base
+  pub laid-out : sum (map (λ k. length (rowsOf e k)) (kindsOf e)) ≡ rows
+  pub longest-line : largestOf (map (λ k. longest (rowsOf e k)) (kindsOf e)) ≡ bytes

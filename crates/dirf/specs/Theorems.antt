@@ -9,3 +9,4 @@ pub mod Whose
 pub mod Entries
 pub mod ThereAndBack
 pub mod Demands
+pub mod Files

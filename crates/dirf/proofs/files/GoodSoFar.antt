@@ -135,7 +135,7 @@ module _ (e : Edition) (sound : Sound e) (room : ℕ) where
   ends-low before = if-cases (λ (v : Verdict). v .number ≤ 1) (closed before) (λ _. omega arith) (λ _. omega arith)
 
   -- all lines are kept: number 0 or 1, and it can be closed
-  good : (s : Text) → Unfinished s room → Kept e room [] (pieces s) → GoodSoFar e s room
+  good : (s : Text) → Unfinished s room → Kept e room [] (pieces s) → GoodSoFar (λ file. e) s room
   good s u k =
       let before = recs e [] (pieces s) in
       let count = length-recs e [] (pieces s) ∙ zero-add (length (pieces s)) ∙ line-count s (whole-ended (u .whole)) in
@@ -151,7 +151,7 @@ module _ (e : Edition) (sound : Sound e) (room : ℕ) where
 
   -- a line breaks a rule: the answer is final
   final : (s : Text) → Whole s → (os : List Piece) (p : Piece) (qs : List Piece) (n f : ℕ) → pieces s ≡ os ++ (p ∷ qs) → Kept e room [] os
-      → FirstBroken (here e room (recs e [] os) p) n f order → GoodSoFar e s room
+      → FirstBroken (here e room (recs e [] os) p) n f order → GoodSoFar (λ file. e) s room
   unfolding refused
   final s w os p qs n f split k b =
       let v : verdict e s room ≡ refused (recs e [] os) n f = stops-verdict e room s os p qs n f split k b in
@@ -166,9 +166,9 @@ module _ (e : Edition) (sound : Sound e) (room : ℕ) where
         final = λ h t. same t;
       }
 
-pub good-so-far : (e : Edition) → Sound e → GoodUpToHere e
+pub good-so-far : (e : Edition) → Sound e → GoodUpToHere (λ file. e)
 good-so-far e sound s room u = go (fate e room [] (pieces s))
   where
-    go : Fate e room [] (pieces s) → GoodSoFar e s room
+    go : Fate e room [] (pieces s) → GoodSoFar (λ file. e) s room
     go (passes k) = good e sound room s u k
     go (stops os p qs n f split k b) = final e sound room s (u .whole) os p qs n f split k b

@@ -80,6 +80,10 @@ unfolding pieces
 whole-ended empty = tt
 whole-ended (ends-in-CR-LF s) = ends-good s .0
 
+-- a file that ends in CR LF has a line end
+pub ends-line : (s : Text) → 1 ≤ lineEnds (s ++ lineEnd)
+ends-line s = let g = ends-good s in omega (arith, line-count (s ++ lineEnd) (g .0), g .1)
+
 pub pieces-push : (b : ℕ) (s : Text) → b ≢ 13 → pieces (b ∷ s) ≡ push b (pieces s)
 unfolding pieces
 pieces-push b [] n = refl

@@ -22,7 +22,7 @@ pub record Demands (e : Edition) : Type 0 where
   pub reader-writes-back : ReaderWritesBack e
   pub writer-columns-hold : WriterColumnsHold
   -- demand 3: good up to here
-  pub good-so-far : GoodUpToHere e
+  pub good-so-far : GoodUpToHere (λ file. e)
   -- whose each line is, and which bytes of the file its entry points at
   pub whose : Whose e
   pub entries : Entries e

@@ -29,17 +29,19 @@ pub record Unfinished (s : Text) (room : ℕ) : Type 0 where
   pub few : lineEnds s ≤ 65532
   pub roomy : lineEnds s + 4 ≤ room
 
+-- Stated once: `by` says by which edition a file is judged, always by the same one, or by the one that its line 1 picks.
+
 -- "it can still become an accepted file, and at most four further lines do it"
-abbrev pub CanBecomeAccepted : Edition → Text → ℕ → Type 0
-CanBecomeAccepted e s room = (t : Text) × Whole t × (lineEnds t ≤ 4) × Accepted e (s ++ t) room
+abbrev pub CanBecomeAccepted : (Text → Edition) → Text → ℕ → Type 0
+CanBecomeAccepted by s room = (t : Text) × Whole t × (lineEnds t ≤ 4) × Accepted (by (s ++ t)) (s ++ t) room
 
-pub record GoodSoFar (e : Edition) (s : Text) (room : ℕ) : Type 0 where
+pub record GoodSoFar (by : Text → Edition) (s : Text) (room : ℕ) : Type 0 where
   -- "The first happens exactly when the answer is acceptance", 0, "or 'file not closed'", 1: then four lines do it,
-  pub can : verdict e s room .number ≤ 1 → CanBecomeAccepted e s room
+  pub can : verdict (by s) s room .number ≤ 1 → CanBecomeAccepted by s room
   -- and whatever makes it accepted, four lines or any other text, the answer was one of the two
-  pub only-then : (t : Text) → Accepted e (s ++ t) room → verdict e s room .number ≤ 1
+  pub only-then : (t : Text) → Accepted (by (s ++ t)) (s ++ t) room → verdict (by s) s room .number ≤ 1
   -- "or it is refused and nothing written after it changes the number, the line, the field or the table"
-  pub final : (verdict e s room .number ≤ 1 → ⊥) → (t : Text) → verdict e (s ++ t) room ≡ verdict e s room
+  pub final : (verdict (by s) s room .number ≤ 1 → ⊥) → (t : Text) → verdict (by (s ++ t)) (s ++ t) room ≡ verdict (by s) s room
 
-abbrev pub GoodUpToHere : Edition → Type 0
-GoodUpToHere e = (s : Text) (room : ℕ) → Unfinished s room → GoodSoFar e s room
+abbrev pub GoodUpToHere : (Text → Edition) → Type 0
+GoodUpToHere by = (s : Text) (room : ℕ) → Unfinished s room → GoodSoFar by s room

@@ -1,0 +1,112 @@
+-- Both editions are sound: computed tests over their tables, and four lines that close a file.
+use Prim.Native.Nat.{ℕ, suc, _≤_}
+use mathlib.Core.Path.{_≡_, refl}
+use mathlib.Core.List.{List}
+use native.Mathlib.Omega.{arith}
+use lib.ListN.{length}
+use borrow.Author.Tests.{le-ltb}
+use Rattle.dirf.specs as specs
+use Rattle.dirf.specs.Bytes.{Text, bytes, bytes-opens}
+use Rattle.dirf.specs.Limits.{linesLimit}
+use Rattle.dirf.specs.Kinds.{Dirf, RESPO, DECPF, FIMDirf, kinds-opens}
+use Rattle.dirf.specs.Row.{Row}
+use Rattle.dirf.specs.Layout.{dirfRows2025, dirfRows2022, respoRows, decpfRows, fimdirfRows}
+use Rattle.dirf.specs.Below.{underDECPF, underDECPJ, lists2022}
+use Rattle.dirf.specs.Edition.{Edition, kindOf, nameOf, rowsOf, edition2025, edition2022, edition-opens}
+use Rattle.dirf.specs.Editions.{EditionName, of2025, of2022, editionNamed}
+use Rattle.dirf.specs.LineWriter.{sum}
+use Rattle.dirf.specs.Tables.{Counted, count, largestOf}
+use Rattle.dirf.specs.Tree.{Rec, opening, mayStand}
+use Rattle.dirf.specs.Order.{kindOfLine}
+use Rattle.dirf.specs.Theorems.Sound.{level, rising, KeptAfter, Closable, Sound}
+use Rattle.dirf.proofs.tables.Tested.{nests, belowTest, tests, Tested, sound}
+
+-- 73 kinds, 56 of them in the base, 561 field rows; in the older edition RTDS and ESDS with their 14 rows each are missing
+pub counted2025 : Counted edition2025 73 56 561 211
+unfolding bytes-opens kinds-opens edition-opens sum count largestOf
+counted2025 = record { all = refl; taken = refl; laid-out = refl; longest-line = refl }
+
+pub counted2022 : Counted edition2022 71 54 533 211
+unfolding bytes-opens kinds-opens edition-opens sum count largestOf
+counted2022 = record { all = refl; taken = refl; laid-out = refl; longest-line = refl }
+
+tested2025 : Tested edition2025 underDECPF underDECPJ
+unfolding bytes-opens kinds-opens edition-opens sum count level rising nests belowTest tests
+tested2025 = record { lists = refl; passed = refl; identified = refl }
+
+tested2022 : Tested edition2022 (lists2022 underDECPF) (lists2022 underDECPJ)
+unfolding bytes-opens kinds-opens edition-opens sum count level rising nests belowTest tests
+tested2022 = record { lists = refl; passed = refl; identified = refl }
+
+-- a record's identifier and rows in an edition
+abbrev Has : Edition → ℕ → Text → List Row → Type 0
+Has e k name rows = (kindOf e name ≡ k) × (nameOf e k ≡ name) × (rowsOf e k ≡ rows)
+
+-- line 1 is an edition's own
+abbrev line1 : EditionName → Text
+line1 of2025 = bytes "Dirf|2025|2024|N||R6GP3ZA|"
+line1 of2022 = bytes "Dirf|2022|2021|N||XJFSFHB|"
+
+abbrev rowsOf1 : EditionName → List Row
+rowsOf1 of2025 = dirfRows2025
+rowsOf1 of2022 = dirfRows2022
+
+-- the records of the four lines that close a file: the first is an edition's own
+record HasLines (n : EditionName) (e : Edition) : Type 0 where
+  dirf : Has e Dirf (bytes "Dirf") (rowsOf1 n)
+  respo : Has e RESPO (bytes "RESPO") respoRows
+  decpf : Has e DECPF (bytes "DECPF") decpfRows
+  fimdirf : Has e FIMDirf (bytes "FIMDirf") fimdirfRows
+
+module _ (e : Edition) where
+  first : (n : EditionName) → HasLines n e → (before : List Rec) → length before ≡ 0 → KeptAfter e (line1 n) before
+  unfolding bytes-opens kinds-opens specs.Lines.lines-opens specs.Numbers.numbers-opens specs.Fields.fields-opens
+      specs.Conditions.conditions-opens specs.Rules.rules-opens specs.Keys.keys-opens specs.Order.line-opens mayStand opening
+  first of2025 has before h room c m r = let d = has .dirf in simp (c, h, le-ltb room 1 (omega arith), d .0, d .1, d .2)
+  first of2022 has before h room c m r = let d = has .dirf in simp (c, h, le-ltb room 1 (omega arith), d .0, d .1, d .2)
+
+  names-dirf : (n : EditionName) → HasLines n e → kindOfLine e (line1 n) ≡ Dirf
+  unfolding specs.Lines.lines-opens kindOfLine
+  names-dirf of2025 has = has .dirf .0
+  names-dirf of2022 has = has .dirf .0
+
+  closable : (n : EditionName) → HasLines n e → Closable e
+  unfolding bytes-opens kinds-opens specs.Lines.lines-opens specs.Numbers.numbers-opens specs.Fields.fields-opens
+      specs.Conditions.conditions-opens specs.Rules.rules-opens specs.Keys.keys-opens specs.Order.line-opens mayStand opening
+  closable n has =
+      record {
+        line1 = line1 n;
+        line2 = bytes "RESPO|00000000000|A|11|33334444||||";
+        line3 = bytes "DECPF|00000000000|A|N|N|N|N|N|||N|||||";
+        last = bytes "FIMDirf|";
+        after0 = first n has;
+        after1 = λ before h room c m r. let a = has .respo in simp (c, h, le-ltb room 2 (omega arith), a .0, a .1, a .2);
+        after2 = λ before h room c m r. let b = has .decpf in simp (c, h, le-ltb room 3 (omega arith), b .0, b .1, b .2);
+        after3 = λ before h room c m r.
+            let n = suc (length before) in
+            let l = has .fimdirf in
+            simp (c, le-ltb linesLimit n (omega arith), le-ltb room n (omega arith), le-ltb (length before) 3 h, l .0, l .1, l .2);
+        open1 = λ q. omega (arith, names-dirf n has, q);
+        open2 = λ q. omega (arith, has .respo .0, q);
+        open3 = λ q. omega (arith, has .decpf .0, q);
+        closes = has .fimdirf .0;
+      }
+
+has2025 : HasLines of2025 edition2025
+unfolding bytes-opens edition-opens
+has2025 = record { dirf = (refl, refl, refl); respo = (refl, refl, refl); decpf = (refl, refl, refl); fimdirf = (refl, refl, refl) }
+
+has2022 : HasLines of2022 edition2022
+unfolding bytes-opens kinds-opens edition-opens
+has2022 = record { dirf = (refl, refl, refl); respo = (refl, refl, refl); decpf = (refl, refl, refl); fimdirf = (refl, refl, refl) }
+
+pub sound2025 : Sound edition2025
+sound2025 = sound tested2025 (closable edition2025 of2025 has2025)
+
+pub sound2022 : Sound edition2022
+sound2022 = sound tested2022 (closable edition2022 of2022 has2022)
+
+pub sound-named : (n : EditionName) → Sound (editionNamed n)
+unfolding editionNamed
+sound-named of2025 = sound2025
+sound-named of2022 = sound2022
