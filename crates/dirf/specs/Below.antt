@@ -2,24 +2,24 @@
 -- edition, records of the base only.
 -- What 000's indents put under INFPC and INFPA is not here: those two are left for later.
 use Prim.Native.Nat.{ℕ}
-use mathlib.Core.List.{List, [], _∷_, map}
+use mathlib.Core.List.{List, [], _∷_}
 use lib.Dec.{eqb}
-use Rattle.dirf.specs.Bytes.{if_then_else_, those}
+use Rattle.dirf.specs.Bytes.{if_then_else_}
 use Rattle.dirf.specs.Kinds.{DECPF, DECPJ, IDREC, BPFDEC, RTRT, RTPO, RTDP, RTDS, RTIRF, CJAC, CJAA, ESRT, ESPO, ESDP, ESDS}
 use Rattle.dirf.specs.Kinds.{ESIR, ESDJ, RTPP, RTFA, RTSP, ESPP, ESFA, ESSP, RTPA, ESPA, RIDAC, RIIRP, RIAP, RIMOG, RIP65}
 use Rattle.dirf.specs.Kinds.{RIBMR, RICAP, RIRPC, RIL96, RIPTS, RIJMRE, RIO, BPJDEC, FCI, BPFFCI, BPJFCI, PROC, BPFPROC}
-use Rattle.dirf.specs.Kinds.{RIRSR, BPJPROC, RRA, BPFRRA, DAJUD, QTMESES, SCP, BPFSCP, RISCP, BPJSCP, in2022}
+use Rattle.dirf.specs.Kinds.{RIRSR, BPJPROC, RRA, BPFRRA, DAJUD, QTMESES, SCP, BPFSCP, RISCP, BPJSCP}
 
 -- a parent, and the records that may stand directly below it
 abbrev pub Children : Type 0
 Children = List (ℕ × List ℕ)
 
--- 004, list 2.1
-abbrev pub underDECPF : Children
-underDECPF =
+-- list 2.1, the same in both editions but for what stands below a BPFDEC
+abbrev pub listOfDECPF : List ℕ → Children
+listOfDECPF belowBPFDEC =
     (DECPF, IDREC ∷ RRA ∷ SCP ∷ []) ∷
     (IDREC, BPFDEC ∷ BPJDEC ∷ BPFRRA ∷ []) ∷
-    (BPFDEC, RTRT ∷ RTPO ∷ RTDP ∷ RTDS ∷ RTIRF ∷ CJAC ∷ CJAA ∷ ESRT ∷ ESPO ∷ ESDP ∷ ESDS ∷ ESIR ∷ ESDJ ∷ RIDAC ∷ RIIRP ∷ RIAP ∷ RIP65 ∷ RIJMRE ∷ RIO ∷ []) ∷
+    (BPFDEC, belowBPFDEC) ∷
     (BPJDEC, RTRT ∷ RTIRF ∷ []) ∷
     (RRA, IDREC ∷ []) ∷
     (BPFRRA, RTRT ∷ RTPO ∷ RTIRF ∷ DAJUD ∷ QTMESES ∷ RIJMRE ∷ []) ∷
@@ -28,18 +28,18 @@ underDECPF =
     (BPJSCP, RISCP ∷ []) ∷
     []
 
--- 004, list 2.2
-abbrev pub underDECPJ : Children
-underDECPJ =
+-- list 2.2, the same in both editions but for what stands below a BPFDEC and a BPFPROC
+abbrev pub listOfDECPJ : List ℕ → List ℕ → Children
+listOfDECPJ belowBPFDEC belowBPFPROC =
     (DECPJ, IDREC ∷ FCI ∷ PROC ∷ RRA ∷ SCP ∷ []) ∷
     (IDREC, BPFDEC ∷ BPJDEC ∷ BPFFCI ∷ BPJFCI ∷ BPFPROC ∷ BPJPROC ∷ BPFRRA ∷ []) ∷
-    (BPFDEC, RTRT ∷ RTPO ∷ RTDP ∷ RTDS ∷ RTIRF ∷ CJAC ∷ CJAA ∷ ESRT ∷ ESPO ∷ ESDP ∷ ESDS ∷ ESIR ∷ ESDJ ∷ RIDAC ∷ RIIRP ∷ RIAP ∷ RIMOG ∷ RIP65 ∷ RIBMR ∷ RICAP ∷ RIRPC ∷ RIL96 ∷ RIPTS ∷ RIJMRE ∷ RIO ∷ []) ∷
+    (BPFDEC, belowBPFDEC) ∷
     (BPJDEC, RTRT ∷ RTIRF ∷ []) ∷
     (FCI, IDREC ∷ []) ∷
     (BPFFCI, RTRT ∷ RTIRF ∷ CJAC ∷ CJAA ∷ ESRT ∷ ESIR ∷ ESDJ ∷ RIP65 ∷ RIMOG ∷ RICAP ∷ RIO ∷ []) ∷
     (BPJFCI, RTRT ∷ RTIRF ∷ []) ∷
     (PROC, IDREC ∷ []) ∷
-    (BPFPROC, RTRT ∷ RTPO ∷ RTDP ∷ RTDS ∷ RTIRF ∷ CJAC ∷ CJAA ∷ ESRT ∷ ESPO ∷ ESDP ∷ ESDS ∷ ESIR ∷ ESDJ ∷ RTPP ∷ RTFA ∷ RTSP ∷ ESPP ∷ ESFA ∷ ESSP ∷ RTPA ∷ ESPA ∷ RIMOG ∷ RIJMRE ∷ RIRSR ∷ []) ∷
+    (BPFPROC, belowBPFPROC) ∷
     (BPJPROC, RTRT ∷ RTIRF ∷ RIRSR ∷ []) ∷
     (RRA, IDREC ∷ []) ∷
     (BPFRRA, RTRT ∷ RTPO ∷ RTIRF ∷ RIMOG ∷ RIP65 ∷ RIJMRE ∷ DAJUD ∷ QTMESES ∷ []) ∷
@@ -48,9 +48,35 @@ underDECPJ =
     (BPJSCP, RISCP ∷ []) ∷
     []
 
--- 000, lists 2.1 and 2.2: RTDS and ESDS stand nowhere, all else stands where 004's lists have it
-unfoldable pub lists2022 : Children → Children
-lists2022 = map (λ r. (r .0, those in2022 (r .1)))
+-- 004, lists 2.1 and 2.2
+abbrev pub underDECPF2025 : Children
+underDECPF2025 =
+    listOfDECPF
+    (RTRT ∷ RTPO ∷ RTDP ∷ RTDS ∷ RTIRF ∷ CJAC ∷ CJAA ∷ ESRT ∷ ESPO ∷ ESDP ∷ ESDS ∷ ESIR ∷ ESDJ ∷ RIDAC ∷ RIIRP ∷
+    RIAP ∷ RIP65 ∷ RIJMRE ∷ RIO ∷ [])
+
+abbrev pub underDECPJ2025 : Children
+underDECPJ2025 =
+    listOfDECPJ
+    (RTRT ∷ RTPO ∷ RTDP ∷ RTDS ∷ RTIRF ∷ CJAC ∷ CJAA ∷ ESRT ∷ ESPO ∷ ESDP ∷ ESDS ∷ ESIR ∷ ESDJ ∷ RIDAC ∷ RIIRP ∷
+    RIAP ∷ RIMOG ∷ RIP65 ∷ RIBMR ∷ RICAP ∷ RIRPC ∷ RIL96 ∷ RIPTS ∷ RIJMRE ∷ RIO ∷ [])
+    (RTRT ∷ RTPO ∷ RTDP ∷ RTDS ∷ RTIRF ∷ CJAC ∷ CJAA ∷ ESRT ∷ ESPO ∷ ESDP ∷ ESDS ∷ ESIR ∷ ESDJ ∷ RTPP ∷ RTFA ∷
+    RTSP ∷ ESPP ∷ ESFA ∷ ESSP ∷ RTPA ∷ ESPA ∷ RIMOG ∷ RIJMRE ∷ RIRSR ∷ [])
+
+-- 000, lists 2.1 and 2.2
+abbrev pub underDECPF2022 : Children
+underDECPF2022 =
+    listOfDECPF
+    (RTRT ∷ RTPO ∷ RTDP ∷ RTIRF ∷ CJAC ∷ CJAA ∷ ESRT ∷ ESPO ∷ ESDP ∷ ESIR ∷ ESDJ ∷ RIDAC ∷ RIIRP ∷ RIAP ∷ RIP65 ∷
+    RIJMRE ∷ RIO ∷ [])
+
+abbrev pub underDECPJ2022 : Children
+underDECPJ2022 =
+    listOfDECPJ
+    (RTRT ∷ RTPO ∷ RTDP ∷ RTIRF ∷ CJAC ∷ CJAA ∷ ESRT ∷ ESPO ∷ ESDP ∷ ESIR ∷ ESDJ ∷ RIDAC ∷ RIIRP ∷ RIAP ∷ RIMOG ∷
+    RIP65 ∷ RIBMR ∷ RICAP ∷ RIRPC ∷ RIL96 ∷ RIPTS ∷ RIJMRE ∷ RIO ∷ [])
+    (RTRT ∷ RTPO ∷ RTDP ∷ RTIRF ∷ CJAC ∷ CJAA ∷ ESRT ∷ ESPO ∷ ESDP ∷ ESIR ∷ ESDJ ∷ RTPP ∷ RTFA ∷ RTSP ∷ ESPP ∷
+    ESFA ∷ ESSP ∷ RTPA ∷ ESPA ∷ RIMOG ∷ RIJMRE ∷ RIRSR ∷ [])
 
 -- 01, "The tree": "one table of yes and no, with the declarant's kind as a part of the question"
 unfoldable pub byDeclarant : Children → Children → ℕ → Children

@@ -8,7 +8,7 @@ use Rattle.dirf.specs.Bytes.{if_then_else_, Text, same, some, isIn, look
 use Rattle.dirf.specs.Kinds.{names2025, names2022, isLater}
 use Rattle.dirf.specs.Row.{Row}
 use Rattle.dirf.specs.Layout.{layout2025, layout2022}
-use Rattle.dirf.specs.Below.{Children, underDECPF, underDECPJ, lists2022, byDeclarant}
+use Rattle.dirf.specs.Below.{Children, underDECPF2025, underDECPJ2025, underDECPF2022, underDECPJ2022, byDeclarant}
 
 pub record Edition : Type 0 where
   -- the kinds and their identifiers
@@ -19,10 +19,10 @@ pub record Edition : Type 0 where
   pub below : ℕ → Children
 
 unfoldable pub edition2025 : Edition
-edition2025 = record { names = names2025; layout = layout2025; below = byDeclarant underDECPF underDECPJ }
+edition2025 = record { names = names2025; layout = layout2025; below = byDeclarant underDECPF2025 underDECPJ2025 }
 
 unfoldable pub edition2022 : Edition
-edition2022 = record { names = names2022; layout = layout2022; below = byDeclarant (lists2022 underDECPF) (lists2022 underDECPJ) }
+edition2022 = record { names = names2022; layout = layout2022; below = byDeclarant underDECPF2022 underDECPJ2022 }
 
 -- the kind that an identifier names; 0: unknown
 unfoldable pub kindIn : List (ℕ × Text) → Text → ℕ
@@ -49,5 +49,5 @@ isBase e k = some (λ n. eqb k (n .0)) (e .names) && not (isLater k)
 
 -- to compute with this file: `unfolding edition-opens`
 unfoldable pub edition-opens : Unit {0}
-unfolding lists2022 byDeclarant edition2025 edition2022 kindIn kindOf nameOf rowsIn rowsOf isBase
+unfolding byDeclarant edition2025 edition2022 kindIn kindOf nameOf rowsIn rowsOf isBase
 edition-opens = tt

@@ -1,8 +1,8 @@
 -- The 73 kinds of record: their numbers, their identifiers, and what each is.
 use Prim.Native.Nat.{ℕ}
-use mathlib.Core.Bool.{Bool, not}
+use mathlib.Core.Bool.{Bool}
 use mathlib.Core.List.{List, [], _∷_}
-use Rattle.dirf.specs.Bytes.{Text, bytes, those, isIn}
+use Rattle.dirf.specs.Bytes.{Text, bytes, isIn}
 
 -- 01, "Lines and limits": "Kind numbers are fixed in docs/, from 1, in the order in which 004's list 2.2 first names them, those left
 -- for later counted too, DECPF standing before DECPJ."
@@ -226,8 +226,8 @@ abbrev pub FIMDirf : ℕ
 FIMDirf = 73
 
 -- 01, "What the checker covers": "Document 000 decides the spelling of identifiers."
-abbrev pub names2025 : List (ℕ × Text)
-names2025 =
+abbrev pub upToRTDP : List (ℕ × Text) → List (ℕ × Text)
+upToRTDP after =
     (Dirf, bytes "Dirf") ∷
     (RESPO, bytes "RESPO") ∷
     (DECPF, bytes "DECPF") ∷
@@ -237,14 +237,20 @@ names2025 =
     (RTRT, bytes "RTRT") ∷
     (RTPO, bytes "RTPO") ∷
     (RTDP, bytes "RTDP") ∷
-    (RTDS, bytes "RTDS") ∷
+    after
+
+abbrev pub upToESDP : List (ℕ × Text) → List (ℕ × Text)
+upToESDP after =
     (RTIRF, bytes "RTIRF") ∷
     (CJAC, bytes "CJAC") ∷
     (CJAA, bytes "CJAA") ∷
     (ESRT, bytes "ESRT") ∷
     (ESPO, bytes "ESPO") ∷
     (ESDP, bytes "ESDP") ∷
-    (ESDS, bytes "ESDS") ∷
+    after
+
+abbrev pub fromESIR : List (ℕ × Text)
+fromESIR =
     (ESIR, bytes "ESIR") ∷
     (ESDJ, bytes "ESDJ") ∷
     (INFPC, bytes "INFPC") ∷
@@ -303,16 +309,13 @@ names2025 =
     (FIMDirf, bytes "FIMDirf") ∷
     []
 
--- 02, A4: "no RTDS or ESDS" in the older edition
-abbrev pub only2025 : List ℕ
-only2025 = RTDS ∷ ESDS ∷ []
+-- 004, lists 2.1 and 2.2
+abbrev pub names2025 : List (ℕ × Text)
+names2025 = upToRTDP ((RTDS, bytes "RTDS") ∷ upToESDP ((ESDS, bytes "ESDS") ∷ fromESIR))
 
-unfoldable pub in2022 : ℕ → Bool
-in2022 k = not (isIn k only2025)
-
--- 000, lists 2.1 and 2.2: every other identifier is in both editions, and has its number in both
+-- 000, lists 2.1 and 2.2. 02, A4: "no RTDS or ESDS"; all other kinds keep their numbers
 abbrev pub names2022 : List (ℕ × Text)
-names2022 = those (λ n. in2022 (n .0)) names2025
+names2022 = upToRTDP (upToESDP fromESIR)
 
 -- 01, "What the checker covers": "Left for later: VPEIM, INFPC, INFPA, PSE, RPDE, INF and all records that stand only below these."
 unfoldable pub later : List ℕ
@@ -379,5 +382,5 @@ standsOnce k = isIn k values
 
 -- to compute with this file: `unfolding kinds-opens`
 unfoldable pub kinds-opens : Unit {0}
-unfolding in2022 later blocks beneficiaries values isLater isBlock isBeneficiary isValue opensNothing standsOnce
+unfolding later blocks beneficiaries values isLater isBlock isBeneficiary isValue opensNothing standsOnce
 kinds-opens = tt

@@ -2,16 +2,16 @@
 -- records with 561 rows, in the older one 54 with 533. Of 2025 3.1 to 3.3 are 004's, all others 000's; of the older edition all are
 -- 000's, and but for 3.1 they are the same rows. Beside each row stand its number and its name in the source.
 use Prim.Native.Nat.{ℕ}
-use mathlib.Core.List.{List, [], _∷_, map}
+use mathlib.Core.List.{List, [], _∷_}
 use lib.ListN.{replicate}
-use Rattle.dirf.specs.Bytes.{Text, bytes, those}
+use Rattle.dirf.specs.Bytes.{Text, bytes}
 use Rattle.dirf.specs.Row.{Row, row, C, N, D, fixed, variable, obligatory, optional, identifier, amount, months, ddd}
 use Rattle.dirf.specs.Row.{telephone, cpf, cnpj, cpfOrCnpj, plain, oneOf, sOrN}
 use Rattle.dirf.specs.Kinds.{Dirf, RESPO, DECPF, DECPJ, IDREC, BPFDEC, RTRT, RTPO, RTDP, RTDS, RTIRF, CJAC, CJAA, ESRT}
 use Rattle.dirf.specs.Kinds.{ESPO, ESDP, ESDS, ESIR, ESDJ, RTPP, RTFA, RTSP, ESPP, ESFA, ESSP, RTPA, ESPA, RIDAC, RIIRP}
 use Rattle.dirf.specs.Kinds.{RIAP, RIMOG, RIP65, RIBMR, RICAP, RIRPC, RIL96, RIPTS, RIJMRE, RIO, BPJDEC, FCI, BPFFCI}
 use Rattle.dirf.specs.Kinds.{BPJFCI, PROC, BPFPROC, RIRSR, BPJPROC, RRA, BPFRRA, DAJUD, QTMESES, SCP, BPFSCP, RISCP, BPJSCP}
-use Rattle.dirf.specs.Kinds.{FIMDirf, in2022}
+use Rattle.dirf.specs.Kinds.{FIMDirf}
 
 -- 004, 3.1, and 01, "Fields": "Dirf: fields 2, 3 and 6 are 2025, 2024 and R6GP3ZA; field 4 is S or N; field 5 may be empty."
 abbrev pub dirfRows2025 : List Row
@@ -253,9 +253,23 @@ fimdirfRows =
     row C fixed 7 obligatory identifier ∷  -- 1 Identificador de registro
     []
 
--- which records have which rows, from 3.2 on. 01, "What the checker covers": "RTDS and ESDS, which 000 lacks, take RTDP's field rows"
-abbrev pub afterDirf : List (List ℕ × List Row)
-afterDirf =
+-- 000, 3.19: the records of monthly values
+abbrev pub monthly2022 : List ℕ
+monthly2022 =
+    RTRT ∷ RTPO ∷ RTPP ∷ RTFA ∷ RTSP ∷ RTDP ∷ RTPA ∷ RTIRF ∷ CJAA ∷ CJAC ∷ ESRT ∷ ESPO ∷ ESPP ∷ ESFA ∷ ESSP ∷
+    ESDP ∷ ESPA ∷ ESIR ∷ ESDJ ∷ RIP65 ∷ RIDAC ∷ RIIRP ∷ RIAP ∷ RIMOG ∷ RIRPC ∷ RIBMR ∷ RICAP ∷ RISCP ∷ DAJUD ∷ []
+
+-- 01, "What the checker covers": "RTDS and ESDS, which 000 lacks, take RTDP's field rows"
+abbrev pub monthly2025 : List ℕ
+monthly2025 =
+    RTRT ∷ RTPO ∷ RTPP ∷ RTFA ∷ RTSP ∷ RTDP ∷ RTDS ∷ RTPA ∷ RTIRF ∷ CJAA ∷ CJAC ∷ ESRT ∷ ESPO ∷ ESPP ∷ ESFA ∷
+    ESSP ∷ ESDP ∷ ESDS ∷ ESPA ∷ ESIR ∷ ESDJ ∷ RIP65 ∷ RIDAC ∷ RIIRP ∷ RIAP ∷ RIMOG ∷ RIRPC ∷ RIBMR ∷ RICAP ∷
+    RISCP ∷ DAJUD ∷ []
+
+-- which records have which rows: Dirf and the records of monthly values are an edition's own
+abbrev pub layoutOf : List Row → List ℕ → List (List ℕ × List Row)
+layoutOf dirfRows monthly =
+    (Dirf ∷ [], dirfRows) ∷
     (RESPO ∷ [], respoRows) ∷
     (DECPF ∷ [], decpfRows) ∷
     (DECPJ ∷ [], decpjRows) ∷
@@ -269,11 +283,8 @@ afterDirf =
     (BPFPROC ∷ [], bpfprocRows) ∷
     (BPJPROC ∷ [], bpjprocRows) ∷
     (RRA ∷ [], rraRows) ∷
-    (BPFRRA ∷ [], bpfrraRows) ∷ (
-      RTRT ∷ RTPO ∷ RTPP ∷ RTFA ∷ RTSP ∷ RTDP ∷ RTDS ∷ RTPA ∷ RTIRF ∷ CJAA ∷ CJAC ∷ ESRT ∷ ESPO ∷ ESPP ∷ ESFA ∷ ESSP ∷ ESDP ∷ ESDS ∷
-          ESPA ∷ ESIR ∷ ESDJ ∷ RIP65 ∷ RIDAC ∷ RIIRP ∷ RIAP ∷ RIMOG ∷ RIRPC ∷ RIBMR ∷ RICAP ∷ RISCP ∷ DAJUD ∷ [],
-      monthlyRows,
-    ) ∷
+    (BPFRRA ∷ [], bpfrraRows) ∷
+    (monthly, monthlyRows) ∷
     (RIL96 ∷ RIPTS ∷ RIJMRE ∷ RIRSR ∷ [], annualRows) ∷
     (RIO ∷ [], rioRows) ∷
     (QTMESES ∷ [], qtmesesRows) ∷
@@ -284,7 +295,7 @@ afterDirf =
     []
 
 abbrev pub layout2025 : List (List ℕ × List Row)
-layout2025 = (Dirf ∷ [], dirfRows2025) ∷ afterDirf
+layout2025 = layoutOf dirfRows2025 monthly2025
 
 abbrev pub layout2022 : List (List ℕ × List Row)
-layout2022 = (Dirf ∷ [], dirfRows2022) ∷ map (λ g. (those in2022 (g .0), g .1)) afterDirf
+layout2022 = layoutOf dirfRows2022 monthly2022

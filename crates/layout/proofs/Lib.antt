@@ -4,4 +4,4 @@ pub mod Arms
 pub mod Search
 pub mod Laws
 pub mod Determined
-pub mod Edition2025
+pub mod Editions

@@ -1,3 +1,4 @@
 pub mod Tables
 pub mod Codes
 pub mod LaidOut
+pub mod Editions

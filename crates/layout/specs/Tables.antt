@@ -8,6 +8,7 @@ use Rattle.dirf.specs.Bytes.{if_then_else_, Text, bytes, those, isIn, isEmpty, 
 use Rattle.dirf.specs.Kinds.{IDREC, isLater}
 use Rattle.dirf.specs.Row.{Row, row, Format, C, N, D, Fill, fixed, variable, Need, obligatory, optional}
 use Rattle.dirf.specs.Row.{Holds, identifier, amount, months, ddd, telephone, cpf, cnpj, cpfOrCnpj, plain, oneOf, sOrN}
+use Rattle.dirf.specs.Layout.{mark2022}
 use Rattle.dirf.specs.Edition.{Edition, kindIn, nameOf, rowsOf}
 use Rattle.dirf.specs.Tree.{blockOf}
 use Rattle.fields.specs.Places.{mostFields}
@@ -80,6 +81,9 @@ holdsOf b =
     (121, oneOf (bytes "2025" ∷ [])) ∷
     (122, oneOf (bytes "2024" ∷ [])) ∷
     (114, oneOf (bytes "R6GP3ZA" ∷ [])) ∷
+    (111, oneOf (bytes "2022" ∷ [])) ∷
+    (112, oneOf (bytes "2021" ∷ bytes "2022" ∷ [])) ∷
+    (113, oneOf (mark2022 ∷ [])) ∷
     (49, oneOf (bytes "0" ∷ bytes "1" ∷ [])) ∷
     (50, oneOf (bytes "1" ∷ bytes "2" ∷ [])) ∷
     (51, oneOf (bytes "1" ∷ bytes "2" ∷ bytes "3" ∷ [])) ∷
@@ -159,8 +163,8 @@ holdsByte cpfOrCnpj = 101
 holdsByte plain = 46
 holdsByte (oneOf vs) =
     kindIn
-    ((115, bytes "SN") ∷ (121, bytes "2025") ∷ (122, bytes "2024") ∷ (114, bytes "R6GP3ZA") ∷ (49, bytes "01") ∷ (50, bytes "12") ∷
-    (51, bytes "123") ∷ (56, bytes "012348") ∷ [])
+    ((115, bytes "SN") ∷ (121, bytes "2025") ∷ (122, bytes "2024") ∷ (114, bytes "R6GP3ZA") ∷ (111, bytes "2022") ∷
+    (112, bytes "20212022") ∷ (113, mark2022) ∷ (49, bytes "01") ∷ (50, bytes "12") ∷ (51, bytes "123") ∷ (56, bytes "012348") ∷ [])
     (concat vs)
 
 unfoldable pub rowBytesOf : Row → List ℕ

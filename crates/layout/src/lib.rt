@@ -1,7 +1,9 @@
 // The constant tables of the layout, and what they say of whoever reads them. A constant is built anew by every function that reads
 // it, so each is copied once, by a function of its own, and lent down.
 ghost use mathlib.Core.Path.{_≡_};
-ghost use Prim.Native.Nat.{_+_};
+ghost use Prim.Native.Nat.{_+_, _≤_};
+ghost use lib.ListN.{length, replicate};
+ghost use lib.Seq.{sets};
 ghost use denote.Ref.{ptr};
 ghost use Rattle.dirf.specs.Kinds.{isLater, isValue, opensNothing, standsOnce};
 ghost use Rattle.dirf.specs.Kinds.{DECPF, DECPJ};
@@ -9,6 +11,7 @@ ghost use Rattle.dirf.specs.Edition.{edition2025, kindIn};
 ghost use Rattle.dirf.specs.Tree.{blockOf};
 ghost use Rattle.layout.specs.Tables.{nameIn, nameStart, namesIn, baseIn, countIn, yesIn, holdsIn, nameTable, rowTable, belowTable};
 ghost use Rattle.layout.specs.Codes.{rowCodes};
+ghost use Rattle.layout.specs.Editions.{editionSaid};
 
 // The kinds are numbered from 1, and 0 is none.
 pub const KINDS: usize = 74;
@@ -28,6 +31,21 @@ const RECORD: usize = 1 + MOST_FIELDS * ROW;
 pub const NAME_BYTES: usize = KINDS * SLOT;
 
 pub const ROW_BYTES: usize = KINDS * RECORD;
+
+// The kinds that the older edition lacks, those below which they stand, and where a row of Dirf has what its field holds.
+const RTDS: usize = 10;
+
+const ESDS: usize = 17;
+
+const BPFDEC: usize = 6;
+
+const BPFPROC: usize = 52;
+
+const DIRF_YEAR: usize = RECORD + 2 * ROW;
+
+const DIRF_CALENDAR_YEAR: usize = RECORD + 3 * ROW;
+
+const DIRF_MARK: usize = RECORD + 6 * ROW;
 
 // A slot for each kind, from 0: the length of its identifier, then the identifier.
 const NAMES: [u8; NAME_BYTES] = *b"\
@@ -316,6 +334,12 @@ const BELOW_DECPJ: [[u8; KINDS]; HOLDERS] = [
     *b".............................................................Y............",
 ];
 
+// The two editions that are taken, and no third.
+pub enum Edition {
+    Of2025,
+    Of2022,
+}
+
 // A row of the field table: five bytes.
 pub struct Row {
     pub format: u8,
@@ -333,29 +357,105 @@ const NO_ROW: Row = Row {
     holds: 0,
 };
 
-pub fn name_table() -> [u8; NAME_BYTES]
+fn names_2025() -> [u8; NAME_BYTES]
     ensures { λ r. ⌜ r ≡ nameTable edition2025 ⌝ }
 {
     NAMES
 }
 
-pub fn row_table() -> [u8; ROW_BYTES]
+fn rows_2025() -> [u8; ROW_BYTES]
     ensures { λ r. ⌜ r ≡ rowTable edition2025 ⌝ }
 {
     ROWS
 }
 
-// What may stand below what under a DECPF, and under a DECPJ. Each has a function of its own: to choose between two costs a copy.
-pub fn pf_table() -> [[u8; KINDS]; HOLDERS]
+fn pf_2025() -> [[u8; KINDS]; HOLDERS]
     ensures { λ r. ⌜ r ≡ belowTable edition2025 DECPF ⌝ }
 {
     BELOW_DECPF
 }
 
-pub fn pj_table() -> [[u8; KINDS]; HOLDERS]
+fn pj_2025() -> [[u8; KINDS]; HOLDERS]
     ensures { λ r. ⌜ r ≡ belowTable edition2025 DECPJ ⌝ }
 {
     BELOW_DECPJ
+}
+
+// A byte, n times, from a place of a table on.
+fn fill(t: &mut [u8], from: usize, n: usize, b: u8)
+    requires { ⌜ from + n ≤ length (now t) ⌝ }
+    ensures { λ r. ⌜ now (t .exit) ≡ sets (now (t .entry)) from (replicate n b) ⌝ }
+{
+    let mut i = 0;
+    while i < n {
+        t[from + i] = b;
+        i += 1;
+    }
+}
+
+// The tables of an edition. Those of the older one are those of 2025 with its own values in line 1, and without RTDS and ESDS.
+pub fn name_table(e: Edition) -> [u8; NAME_BYTES]
+    ensures { λ r. ⌜ r ≡ nameTable (editionSaid e) ⌝ }
+{
+    let mut t = names_2025();
+    match e {
+        Edition::Of2025 => {}
+        Edition::Of2022 => {
+            fill(&mut t, RTDS * SLOT, SLOT, 0);
+            fill(&mut t, ESDS * SLOT, SLOT, 0);
+        }
+    }
+    t
+}
+
+pub fn row_table(e: Edition) -> [u8; ROW_BYTES]
+    ensures { λ r. ⌜ r ≡ rowTable (editionSaid e) ⌝ }
+{
+    let mut t = rows_2025();
+    match e {
+        Edition::Of2025 => {}
+        Edition::Of2022 => {
+            fill(&mut t, RTDS * RECORD, RECORD, b'.');
+            fill(&mut t, ESDS * RECORD, RECORD, b'.');
+            t[RTDS * RECORD] = 0;
+            t[ESDS * RECORD] = 0;
+            t[DIRF_YEAR] = b'o';
+            t[DIRF_CALENDAR_YEAR] = b'p';
+            t[DIRF_MARK] = b'q';
+        }
+    }
+    t
+}
+
+// What may stand below what under a DECPF, and under a DECPJ. Each has a function of its own: to choose between two costs a copy.
+pub fn pf_table(e: Edition) -> [[u8; KINDS]; HOLDERS]
+    ensures { λ r. ⌜ r ≡ belowTable (editionSaid e) DECPF ⌝ }
+{
+    let mut t = pf_2025();
+    match e {
+        Edition::Of2025 => {}
+        Edition::Of2022 => {
+            t[BPFDEC][RTDS] = b'.';
+            t[BPFDEC][ESDS] = b'.';
+        }
+    }
+    t
+}
+
+pub fn pj_table(e: Edition) -> [[u8; KINDS]; HOLDERS]
+    ensures { λ r. ⌜ r ≡ belowTable (editionSaid e) DECPJ ⌝ }
+{
+    let mut t = pj_2025();
+    match e {
+        Edition::Of2025 => {}
+        Edition::Of2022 => {
+            t[BPFDEC][RTDS] = b'.';
+            t[BPFDEC][ESDS] = b'.';
+            t[BPFPROC][RTDS] = b'.';
+            t[BPFPROC][ESDS] = b'.';
+        }
+    }
+    t
 }
 
 // The identifier of a kind, as a part of the lent table; empty for what is no kind.

@@ -11,7 +11,7 @@ use Rattle.dirf.specs.Limits.{linesLimit}
 use Rattle.dirf.specs.Kinds.{Dirf, RESPO, DECPF, FIMDirf, kinds-opens}
 use Rattle.dirf.specs.Row.{Row}
 use Rattle.dirf.specs.Layout.{dirfRows2025, dirfRows2022, respoRows, decpfRows, fimdirfRows}
-use Rattle.dirf.specs.Below.{underDECPF, underDECPJ, lists2022}
+use Rattle.dirf.specs.Below.{underDECPF2025, underDECPJ2025, underDECPF2022, underDECPJ2022}
 use Rattle.dirf.specs.Edition.{Edition, kindOf, nameOf, rowsOf, edition2025, edition2022, edition-opens}
 use Rattle.dirf.specs.Editions.{EditionName, of2025, of2022, editionNamed}
 use Rattle.dirf.specs.LineWriter.{sum}
@@ -30,11 +30,11 @@ pub counted2022 : Counted edition2022 71 54 533 211
 unfolding bytes-opens kinds-opens edition-opens sum count largestOf
 counted2022 = record { all = refl; taken = refl; laid-out = refl; longest-line = refl }
 
-tested2025 : Tested edition2025 underDECPF underDECPJ
+tested2025 : Tested edition2025 underDECPF2025 underDECPJ2025
 unfolding bytes-opens kinds-opens edition-opens sum count level rising nests belowTest tests
 tested2025 = record { lists = refl; passed = refl; identified = refl }
 
-tested2022 : Tested edition2022 (lists2022 underDECPF) (lists2022 underDECPJ)
+tested2022 : Tested edition2022 underDECPF2022 underDECPJ2022
 unfolding bytes-opens kinds-opens edition-opens sum count level rising nests belowTest tests
 tested2022 = record { lists = refl; passed = refl; identified = refl }
 

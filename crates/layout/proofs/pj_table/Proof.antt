@@ -1,11 +1,25 @@
--- The constant is the table of what stands below what under a DECPJ, by computing.
-use mathlib.Core.Path.{refl}
-use Rattle.dirf.specs.Bytes.{bytes-opens}
-use Rattle.dirf.specs.Edition.{edition-opens}
-use Rattle.layout.specs.Tables.{belowTable, yes}
+-- Four cells of the older edition's say no.
+use borrow.Author.Needs.{needs}
+use Rattle.dirf.specs.Editions.{editionNamed}
+use Rattle.layout.proofs.Editions.{pj-older}
 use Rattle.layout.proofs.pj_table.Statement.{statement}
 use Rattle.layout.proofs.pj_table.Tie as tie
 
 pub pj-table-spec : {M : Type 1} → statement M
-unfolding belowTable yes bytes-opens edition-opens
-pj-table-spec = tie.close (tie.spec (λ c. refl))
+unfolding editionNamed
+pj-table-spec =
+    tie.close
+    (tie.spec
+    (λ c κs. search needs)
+    (λ c. search needs)
+    (λ c. search needs)
+    (λ c. search needs)
+    (λ c. search needs)
+    (λ c. search needs)
+    (λ c. search needs)
+    (λ c. search needs)
+    (λ c. search needs)
+    (λ c. search needs)
+    (λ c. search needs)
+    (λ c. rw (c .enum-told .given .1) (c .before .before .pj-2025 .ensures))
+    (λ c. rw (c .enum-told2 .given .1, c .before .before .pj-2025 .ensures) pj-older))

@@ -1,0 +1,97 @@
+-- Each edition is laid out in tables, by computing; and what the older one's tables are beside those of 2025.
+use Prim.Native.Nat.{ℕ}
+use mathlib.Core.Path.{_≡_, refl}
+use mathlib.Core.Bool.{Bool, true}
+use mathlib.Core.List.{List, [], _∷_}
+use lib.Dec.{eqb, ltb}
+use lib.ListN.{getD, set, replicate}
+use lib.Seq.{sets}
+use borrow.Author.Tests.{ne-eqb}
+use Rattle.dirf.specs.Bytes.{every, bytes-opens}
+use Rattle.dirf.specs.Kinds.{DECPF, DECPJ, BPFDEC, BPFPROC, RTDS, ESDS, kinds-opens}
+use Rattle.dirf.specs.Below.{Children, byDeclarant}
+use Rattle.dirf.specs.Edition.{edition2025, edition2022, edition-opens}
+use Rattle.dirf.specs.Editions.{EditionName, of2025, of2022, editionNamed}
+use Rattle.dirf.proofs.tests.Bools.{if-cases}
+use Rattle.layout.specs.Tables.{holders, belowTable, nameIn, namesIn, isNamed, baseIn, nameTable, slotOf, concat, rowsIn, countIn, rowIn}
+use Rattle.layout.specs.Tables.{byteIn, rowOf, formatOf, fillOf, needOf, holdsOf, recordOf, rowBytesOf, formatByte, fillByte}
+use Rattle.layout.specs.Tables.{needByte, holdsByte, rowTable, yes}
+use Rattle.layout.specs.LaidOut.{LaidOut, isKind}
+
+-- a test of the lists below holds if it holds of each declarant's
+each : (pf pj : Children) (test : ℕ × List ℕ → Bool) → every test pf ≡ true → every test pj ≡ true → (d : ℕ)
+    → every test (byDeclarant pf pj d) ≡ true
+unfolding byDeclarant
+each pf pj test f j d = if-cases (λ (t : Children). every test t ≡ true) (eqb d DECPF) (λ _. f) (λ _. j)
+
+pub laidOut2025 : LaidOut edition2025
+unfolding nameIn namesIn isNamed baseIn nameTable slotOf concat rowsIn countIn rowIn byteIn rowOf formatOf fillOf needOf holdsOf
+    recordOf rowBytesOf formatByte fillByte needByte holdsByte bytes-opens edition-opens
+laidOut2025 =
+    record {
+      named-kinds = refl;
+      laid-kinds = refl;
+      holds = each _ _ (λ r. ltb (r .0) holders) refl refl;
+      held = each _ _ (λ r. every isKind (r .1)) refl refl;
+      names = refl;
+      name = refl;
+      base = refl;
+      widths = refl;
+      records = λ after. refl;
+    }
+
+pub laidOut2022 : LaidOut edition2022
+unfolding nameIn namesIn isNamed baseIn nameTable slotOf concat rowsIn countIn rowIn byteIn rowOf formatOf fillOf needOf holdsOf
+    recordOf rowBytesOf formatByte fillByte needByte holdsByte bytes-opens kinds-opens edition-opens
+laidOut2022 =
+    record {
+      named-kinds = refl;
+      laid-kinds = refl;
+      holds = each _ _ (λ r. ltb (r .0) holders) refl refl;
+      held = each _ _ (λ r. every isKind (r .1)) refl refl;
+      names = refl;
+      name = refl;
+      base = refl;
+      widths = refl;
+      records = λ after. refl;
+    }
+
+pub laid-out : (n : EditionName) → LaidOut (editionNamed n)
+unfolding editionNamed
+laid-out of2025 = laidOut2025
+laid-out of2022 = laidOut2022
+
+-- what is no DECPF has the list of DECPJ
+pub other-table : (n : EditionName) (d : ℕ) → (d ≡ DECPF → ⊥) → belowTable (editionNamed n) d ≡ belowTable (editionNamed n) DECPJ
+unfolding belowTable edition2025 edition2022 byDeclarant editionNamed
+other-table of2025 d n = rw (ne-eqb d DECPF n)
+other-table of2022 d n = rw (ne-eqb d DECPF n)
+
+-- The tables of the older edition, out of those of 2025.
+pub names-older : sets (sets (nameTable edition2025) 80 (replicate 8 0)) 136 (replicate 8 0) ≡ nameTable edition2022
+unfolding nameTable slotOf concat bytes-opens kinds-opens edition-opens
+names-older = refl
+
+-- a cell that says no
+abbrev pub cleared : List (List ℕ) → ℕ → ℕ → List (List ℕ)
+cleared t h k = set t h (set (getD t h []) k 46)
+
+pub pf-older : cleared (cleared (belowTable edition2025 DECPF) BPFDEC RTDS) BPFDEC ESDS ≡ belowTable edition2022 DECPF
+unfolding belowTable yes bytes-opens kinds-opens edition-opens
+pf-older = refl
+
+pub pj-older :
+    cleared (cleared (cleared (cleared (belowTable edition2025 DECPJ) BPFDEC RTDS) BPFDEC ESDS) BPFPROC RTDS) BPFPROC ESDS
+    ≡ belowTable edition2022 DECPJ
+unfolding belowTable yes bytes-opens kinds-opens edition-opens
+pj-older = refl
+
+pub rows-older :
+    set
+    (set
+    (set (set (set (sets (sets (rowTable edition2025) 760 (replicate 76 46)) 1292 (replicate 76 46)) 760 0) 1292 0) 86 111)
+    91 112)
+    106 113
+    ≡ rowTable edition2022
+unfolding rowTable recordOf rowBytesOf formatByte fillByte needByte holdsByte concat bytes-opens kinds-opens edition-opens
+rows-older = refl
