@@ -6,7 +6,7 @@ ghost use mathlib.Core.Bool.{true, _&&_, not};
 ghost use mathlib.Core.List.{[], _∷_};
 ghost use Prim.Native.Nat.{_≤_, _^_, min};
 ghost use lib.ListN.{length, getD};
-ghost use Rattle.dirf.specs.Bytes.{every, isDigit, beginsWith, same, isEmpty};
+ghost use Rattle.dirf.specs.Bytes.{every, some, isDigit, beginsWith, same, isEmpty};
 ghost use Rattle.dirf.specs.Row.{N, variable};
 ghost use Rattle.dirf.specs.Numbers.{valueOf, isLeap, daysIn, isDay, isDate};
 ghost use Rattle.dirf.specs.Fields.{rightByte, fillsTo, sizeHeld, takesNoZero, dated, valid, fieldOrder};
@@ -249,8 +249,21 @@ fn is_valid(name: &[u8], holds: u8, s: &[u8]) -> bool
         b'y' => fields::same(s, b"2025"),
         b'z' => fields::same(s, b"2024"),
         b'r' => fields::same(s, b"R6GP3ZA"),
+        b'o' => fields::same(s, b"2022"),
+        b'p' => is_either(s, b"2021", b"2022"),
+        b'q' => fields::same(s, b"XJFSFHB"),
         _ => is_letter(holds, s),
     }
+}
+
+// One text or another.
+fn is_either(s: &[u8], a: &[u8], b: &[u8]) -> bool
+    ensures { λ r. ⌜ r ≡ some (same (now (s .entry))) (now (a .entry) ∷ now (b .entry) ∷ []) ⌝ }
+{
+    if fields::same(s, a) {
+        return true;
+    }
+    fields::same(s, b)
 }
 
 // One of the printed values of one byte.
