@@ -1,11 +1,12 @@
 -- The demands, for every sound edition, and so for both.
 use Rattle.dirf.specs.Edition.{Edition, edition2025, edition2022}
+use Rattle.dirf.specs.Editions.{EditionName, editionNamed}
 use Rattle.dirf.specs.Theorems.Sound.{Sound}
 use Rattle.dirf.specs.Theorems.Demands.{Demands}
 use Rattle.dirf.proofs.rules.Columns.{columns-hold, writer-columns-hold}
 use Rattle.dirf.proofs.breaches.TestsSay.{tests-say}
 use Rattle.dirf.proofs.files.Answered.{answered, only, accepted-exactly}
-use Rattle.dirf.proofs.tables.Editions.{sound2025, sound2022}
+use Rattle.dirf.proofs.tables.Editions.{sound2025, sound2022, sound-named}
 use Rattle.dirf.proofs.files.GoodSoFar.{good-so-far}
 use Rattle.dirf.proofs.tree.Whose.{whose}
 use Rattle.dirf.proofs.files.Counts.{counts}
@@ -34,3 +35,6 @@ demands2025 = demands edition2025 sound2025
 
 pub demands2022 : Demands edition2022
 demands2022 = demands edition2022 sound2022
+
+pub demands-named : (n : EditionName) → Demands (editionNamed n)
+demands-named n = demands (editionNamed n) (sound-named n)

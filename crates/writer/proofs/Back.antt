@@ -7,7 +7,6 @@ use lib.ListN.{length, take, drop}
 use lib.Seq.{take-append-seam, drop-append-seam}
 use denote.Ref.{now}
 use Rattle.dirf.specs.Bytes.{Text}
-use Rattle.dirf.specs.Edition.{edition2025}
 use Rattle.dirf.specs.Lines.{fields}
 use Rattle.dirf.specs.Order.{kindOfLine}
 use Rattle.dirf.specs.Rules.{Found, keeps, breaks}
@@ -17,7 +16,8 @@ use Rattle.dirf.specs.LineWriter.{writeLine}
 use Rattle.dirf.specs.Theorems.Plain.{wholeLine}
 use Rattle.dirf.specs.Theorems.ThereAndBack.{Sound-line, ReadsBack, together}
 use Rattle.dirf.proofs.back.NumbersBack.{numbers-back}
-use Rattle.dirf.proofs.Demands.{demands2025}
+use Rattle.dirf.proofs.Demands.{demands-named}
+use Rattle.layout.specs.Editions.{editionSays, editionSaid}
 use Rattle.writer.specs.declared.NumberWritten.{NumberWritten}
 use Rattle.writer.specs.Answers.{numberWritten, lineWritten}
 use Rattle.writer.proofs as writer
@@ -74,30 +74,30 @@ module _ (κs : _) (a : _) (r : _) (s : _) (p : writer.write_months.Reads.Post �
   unfolding numberWritten amounts-opens
   months-careful = careful _ _ (now (a .1 .0)) (ap (λ r. r .number) (p .0)) (ap (λ r. r .count) (p .0)) (p .1)
 
--- arguments: the kind, the contents, the lengths, the output
+-- arguments: the edition, the kind, the contents, the lengths, the output
 module _ (κs : _) (a : _) (r : _) (s : _) (p : writer.write_line.Reads.Post κs a r s) where
   pub line-back : r .number ≡ 0
-      → ReadsBack edition2025 (a .0) (now (a .1 .0)) (now (a .1 .1 .0)) (take (r .count) (now (s .1 .1 .1 .0)))
+      → ReadsBack (editionSaid (a .0)) (a .1 .0) (now (a .1 .1 .0)) (now (a .1 .1 .1 .0)) (take (r .count) (now (s .1 .1 .1 .1 .0)))
   unfolding lineWritten
   line-back e =
-      let out = now (a .1 .1 .1 .0) in
-      let w = writeLine edition2025 (a .0) (now (a .1 .0)) (now (a .1 .1 .0)) (length out) in
+      let out = now (a .1 .1 .1 .1 .0) in
+      let w = writeLine (editionSaid (a .0)) (a .1 .0) (now (a .1 .1 .0)) (now (a .1 .1 .1 .0)) (length out) in
       let n : w .number ≡ 0 = sym (ap (λ r. r .number) (p .0)) ∙ e in
       rw (front w out (ap (λ r. r .count) (p .0)) (p .1))
-      (demands2025 .writer-reads-back (a .0) (now (a .1 .0)) (now (a .1 .1 .0)) (length out) n)
+      (demands-named (editionSays (a .0)) .writer-reads-back (a .1 .0) (now (a .1 .1 .0)) (now (a .1 .1 .1 .0)) (length out) n)
 
-  pub line-careful : Careful (r .number) (r .count) (now (a .1 .1 .1 .0)) (now (s .1 .1 .1 .0))
+  pub line-careful : Careful (r .number) (r .count) (now (a .1 .1 .1 .1 .0)) (now (s .1 .1 .1 .1 .0))
   unfolding lineWritten writeLine
-  line-careful = careful _ _ (now (a .1 .1 .1 .0)) (ap (λ r. r .number) (p .0)) (ap (λ r. r .count) (p .0)) (p .1)
+  line-careful = careful _ _ (now (a .1 .1 .1 .1 .0)) (ap (λ r. r .number) (p .0)) (ap (λ r. r .count) (p .0)) (p .1)
 
   -- and every line that breaks no rule of a line is what is written for its kind and its fields, where there is room
-  pub line-there : (text : Text) → Sound-line edition2025 (wholeLine text) → length text + 2 ≤ length (now (a .1 .1 .1 .0))
-      → a .0 ≡ kindOfLine edition2025 text → now (a .1 .0) ≡ together (fields text) → now (a .1 .1 .0) ≡ map length (fields text)
-      → (r .number ≡ 0) × (take (r .count) (now (s .1 .1 .1 .0)) ≡ text ++ (13 ∷ 10 ∷ []))
+  pub line-there : (text : Text) → Sound-line (editionSaid (a .0)) (wholeLine text) → length text + 2 ≤ length (now (a .1 .1 .1 .1 .0))
+      → a .1 .0 ≡ kindOfLine (editionSaid (a .0)) text → now (a .1 .1 .0) ≡ together (fields text) → now (a .1 .1 .1 .0) ≡ map length (fields text)
+      → (r .number ≡ 0) × (take (r .count) (now (s .1 .1 .1 .1 .0)) ≡ text ++ (13 ∷ 10 ∷ []))
   unfolding lineWritten
   line-there text sound room k c l =
-      let out = now (a .1 .1 .1 .0) in
-      let w = writeLine edition2025 (a .0) (now (a .1 .0)) (now (a .1 .1 .0)) (length out) in
+      let out = now (a .1 .1 .1 .1 .0) in
+      let w = writeLine (editionSaid (a .0)) (a .1 .0) (now (a .1 .1 .0)) (now (a .1 .1 .1 .0)) (length out) in
       let t : w ≡ record { number = 0; field = 0; bytes = text ++ (13 ∷ 10 ∷ []) } =
-      rw (k, c, l) (demands2025 .reader-writes-back text (length out) sound room) in
+      rw (k, c, l) (demands-named (editionSays (a .0)) .reader-writes-back text (length out) sound room) in
       (ap (λ r. r .number) (p .0) ∙ ap (λ w. w .number) t, front w out (ap (λ r. r .count) (p .0)) (p .1) ∙ ap (λ w. w .bytes) t)

@@ -9,5 +9,5 @@ amount-one κs a x y s t p q = both-one p q
 pub months-one : OneWith writer.write_months.Reads.Post (λ κs s. now (s .1 .0))
 months-one κs a x y s t p q = both-one p q
 
-pub line-one : OneWith writer.write_line.Reads.Post (λ κs s. now (s .1 .1 .1 .0))
+pub line-one : OneWith writer.write_line.Reads.Post (λ κs s. now (s .1 .1 .1 .1 .0))
 line-one κs a x y s t p q = both-one p q

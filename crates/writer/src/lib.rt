@@ -1,4 +1,5 @@
 // The line writer, and the writers of amounts and month counts. A refusal leaves the output as it was.
+use layout::Edition;
 use rules::Centavos;
 use rules::Finding;
 use rules::MonthTenths;
@@ -10,10 +11,10 @@ ghost use lib.ListN.{length, drop};
 ghost use lib.Seq.{sets};
 ghost use Rattle.dirf.specs.Limits.{bar, largest};
 ghost use Rattle.dirf.specs.Numbers.{decimal};
-ghost use Rattle.dirf.specs.Edition.{edition2025};
 ghost use Rattle.dirf.specs.Written.{outputAfter};
 ghost use Rattle.dirf.specs.Amounts.{writeNumber, writeAmount, writeMonths};
 ghost use Rattle.dirf.specs.LineWriter.{sum, cut, lineOf, writeLine};
+ghost use Rattle.layout.specs.Editions.{editionSaid};
 ghost use Rattle.rules.specs.Findings.{findingOf};
 ghost use Rattle.writer.specs.Answers.{numberWritten, lineWritten, misfitOf, contentsAlong, refusalOf};
 
@@ -233,16 +234,22 @@ fn refusal(
     f
 }
 
-// The line of a kind and the contents of its fields, one after another with their lengths; or the first refusal.
-pub fn write_line(kind: u32, contents: &[u8], lengths: &[usize], out: &mut [u8]) -> LineWritten
+// The line of a kind, in an edition, and the contents of its fields, one after another with their lengths; or the first refusal.
+pub fn write_line(
+    e: Edition,
+    kind: u32,
+    contents: &[u8],
+    lengths: &[usize],
+    out: &mut [u8],
+) -> LineWritten
     ensures { λ r. ⌜ (r
-        ≡ lineWritten (writeLine edition2025 kind (now (contents .entry)) (now (lengths .entry)) (length (now (out .entry)))))
+        ≡ lineWritten (writeLine (editionSaid e) kind (now (contents .entry)) (now (lengths .entry)) (length (now (out .entry)))))
         × (now (out .exit)
-        ≡ outputAfter (writeLine edition2025 kind (now (contents .entry)) (now (lengths .entry)) (length (now (out .entry))))
+        ≡ outputAfter (writeLine (editionSaid e) kind (now (contents .entry)) (now (lengths .entry)) (length (now (out .entry))))
         (now (out .entry))) ⌝ }
 {
-    let names = layout::name_table();
-    let rows = layout::row_table();
+    let names = layout::name_table(e);
+    let rows = layout::row_table(e);
     let r = refusal(&names, &rows, kind, contents, lengths, out.len());
     if r.number != 0 {
         return LineWritten {

@@ -26,10 +26,9 @@ use Rattle.dirf.specs.Theorems.Files.{Files}
 use Rattle.dirf.proofs.tests.Bools.{by-answer}
 use Rattle.dirf.proofs.tests.Says.{same-says}
 use Rattle.dirf.proofs.tests.Lists.{every-in}
-use Rattle.dirf.proofs.tables.Editions.{sound-named}
 use Rattle.dirf.proofs.rules.Columns.{columns-hold}
 use Rattle.dirf.proofs.files.WholeLaws.{ends-line}
-use Rattle.dirf.proofs.Demands.{demands}
+use Rattle.dirf.proofs.Demands.{demands-named}
 
 -- one byte more in front
 push-first : (b : ℕ) (ps : List Piece) → firstBody (push b ps) ≡ b ∷ firstBody ps
@@ -132,7 +131,7 @@ by-its-own n file room a = by-mark n (own-mark n room (pieces file) (a .lines) (
 -- Demand 3 of the answer.
 of : (file : Text) → Demands (editionOf file)
 unfolding editionOf
-of file = demands (editionOf file) (sound-named (editionNameOf file))
+of file = demands-named (editionNameOf file)
 
 -- the empty file is open, whatever the edition
 open-yet : (e : Edition) (room : ℕ) → verdict e [] room .number ≤ 1
@@ -145,7 +144,7 @@ of-either : (n : EditionName) (room : ℕ) → 4 ≤ room
 unfolding lineEnds
 of-either n room r =
     let fresh : Unfinished [] room = record { whole = empty; few = omega arith; roomy = r } in
-    let (t, w, few, a) = demands (editionNamed n) (sound-named n) .good-so-far [] room fresh .can (open-yet (editionNamed n) room) in
+    let (t, w, few, a) = demands-named n .good-so-far [] room fresh .can (open-yet (editionNamed n) room) in
     (t, w, few, by-its-own n t room a, a)
 
 -- where line 1 is whole, what holds of its edition holds of the answer
