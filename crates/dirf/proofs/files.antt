@@ -5,4 +5,5 @@ pub mod Answered
 pub mod Counts
 pub mod Entries
 pub mod GoodSoFar
+pub mod Line1
 pub mod Files

@@ -28,25 +28,10 @@ use Rattle.dirf.proofs.tests.Says.{same-says}
 use Rattle.dirf.proofs.tests.Lists.{every-in}
 use Rattle.dirf.proofs.rules.Columns.{columns-hold}
 use Rattle.dirf.proofs.files.WholeLaws.{ends-line}
+use Rattle.dirf.proofs.files.Line1.{line1-stays}
 use Rattle.dirf.proofs.Demands.{demands-named}
 
--- one byte more in front
-push-first : (b : ℕ) (ps : List Piece) → firstBody (push b ps) ≡ b ∷ firstBody ps
-unfolding firstBody push
-push-first b [] = refl
-push-first b (p ∷ ps) = refl
-
--- what is written after a whole line 1 leaves it as it is
-line1-stays : (s t : Text) → 1 ≤ lineEnds s → line1 (s ++ t) ≡ line1 s
-unfolding line1 pieces firstBody lineEnds
-line1-stays [] t h = absurd (omega arith)
-line1-stays (b ∷ []) t h = absurd (omega arith)
-line1-stays (b ∷ c ∷ s) t h =
-    by-answer (eqb b CR && eqb c LF) (λ q. rw q)
-    (λ q.
-    rw q
-    (push-first b (pieces (c ∷ (s ++ t))) ∙ ap (λ l. b ∷ l) (line1-stays (c ∷ s) t (rw q at h)) ∙ sym (push-first b (pieces (c ∷ s)))))
-
+-- what is written after a whole line 1 leaves the edition as it is
 for-good : (s t : Text) → 1 ≤ lineEnds s → editionNameOf (s ++ t) ≡ editionNameOf s
 unfolding editionNameOf
 for-good s t h = rw (line1-stays s t h)

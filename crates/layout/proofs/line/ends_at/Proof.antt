@@ -1,0 +1,16 @@
+-- The two bytes, one after the other.
+use mathlib.Core.Bool.{and-false}
+use native.Mathlib.Omega.{arith}
+use borrow.Author.Tests.{eq-eqb, ne-eqb}
+use Rattle.layout.proofs.line.ends_at.Statement.{statement}
+use Rattle.layout.proofs.line.ends_at.Tie as tie
+
+pub ends-at-spec : {M : Type 1} → statement M
+ends-at-spec =
+    tie.close
+    (tie.spec
+    (λ c. omega arith)
+    (λ c. rw (ne-eqb _ _ (c .if1 .taken)))
+    (λ c. omega arith)
+    (λ c. omega arith)
+    (λ c. rw (eq-eqb _ _ (not-ne (c .before .if1 .left)))))
