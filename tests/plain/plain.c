@@ -10,6 +10,7 @@ typedef struct { part first, second; } key;
 
 /* The open records. A line number of 0 means that none is open. */
 typedef struct {
+    plain_edition edition;                    /* the file's, picked at line 1 */
     uint32_t declarant;                       /* its kind */
     uint32_t block, block_line;               /* the open FCI, PROC, RRA or SCP */
     uint32_t code_line;                       /* the open IDREC */
@@ -46,6 +47,30 @@ static uint32_t end_line(const uint8_t *rest, size_t left, size_t *len)
     return rest[i] == CR && rest[i + 1] == LF ? 0 : 6;
 }
 
+static int is_older_mark(part field)
+{
+    const char *mark = plain_row_of(PLAIN_2022, DIRF, MARK_FIELD).values;
+    return field.len == strlen(mark) && memcmp(field.bytes, mark, field.len) == 0;
+}
+
+plain_edition plain_edition_of(const uint8_t *file, size_t file_len)
+{
+    /* Only a CR LF ends line 1 here, so end_line, which also stops at a lone CR
+       or LF and at the most bytes, is no help. The sixth bar ends the walk, as
+       what stands behind it cannot change field 6. */
+    size_t bars = 0, begin = 0;
+    for (size_t i = 0; i < file_len; i++) {
+        if (file[i] == CR && i + 1 < file_len && file[i + 1] == LF)
+            break;
+        if (file[i] != BAR)
+            continue;
+        if (++bars == MARK_FIELD)
+            return is_older_mark((part){file + begin, i - begin}) ? PLAIN_2022 : PLAIN_2025;
+        begin = i + 1;
+    }
+    return PLAIN_2025;
+}
+
 /* Cuts a line at its bars; fields past the most are counted, not kept. */
 static void cut_line(line *l)
 {
@@ -80,7 +105,7 @@ static int beneficiary_may_stand(const place *p, uint32_t kind, uint32_t *parent
     if (*parent == 0 || block_of(kind) != p->block)
         return 0;
     /* In each block the BPF kind has the smaller number and stands first. */
-    return plain_below(p->declarant, above, kind) && kind >= p->beneficiary;
+    return plain_below(p->edition, p->declarant, above, kind) && kind >= p->beneficiary;
 }
 
 /* Number 12, the other way round; gives the parent's line as well. */
@@ -100,15 +125,17 @@ static int may_stand(const place *p, uint32_t number, uint32_t kind,
     case BLOCK:
         /* The blocks' kind numbers rise in the order that they stand in. */
         *parent = DECLARANT_LINE;
-        return plain_below(p->declarant, p->declarant, kind) && kind >= p->block;
+        return plain_below(p->edition, p->declarant, p->declarant, kind)
+            && kind >= p->block;
     case CODE:
         *parent = p->block ? p->block_line : DECLARANT_LINE;
-        return plain_below(p->declarant, p->block ? p->block : p->declarant, kind);
+        return plain_below(p->edition, p->declarant,
+                           p->block ? p->block : p->declarant, kind);
     case BENEFICIARY:
         return beneficiary_may_stand(p, kind, parent);
     case VALUE:
         *parent = p->beneficiary_line;
-        return plain_below(p->declarant, p->beneficiary, kind);
+        return plain_below(p->edition, p->declarant, p->beneficiary, kind);
     default:
         return 0;
     }
@@ -159,16 +186,16 @@ static fault line_fault(const place *p, line *l)
     if (b.len == 0 || b.bytes[b.len - 1] != BAR)
         return (fault){8, 0};
     cut_line(l);
-    l->kind = plain_kind_of(l->fields[0]);
+    l->kind = plain_kind_of(p->edition, l->fields[0]);
     if (l->kind == NO_KIND)
         return (fault){9, 1};
-    if (!plain_is_base(l->kind))
+    if (plain_records[l->kind].role == LATER)
         return (fault){10, 1};
     if (!may_stand(p, l->number, l->kind, &l->parent))
         return (fault){12, 1};
     if (l->bars != plain_records[l->kind].fields)
         return (fault){11, 0};
-    fault found = plain_fields_fault(l->kind, l->fields);
+    fault found = plain_fields_fault(p->edition, l->kind, l->fields);
     if (found.number != 0)
         return found;
     if (plain_records[l->kind].role == VALUE && (p->seen & bit(l->kind)))
@@ -227,7 +254,7 @@ static plain_answer refused(uint32_t number, uint32_t at_line, uint32_t field)
 static plain_answer check(const uint8_t *file, size_t file_len,
                           uint32_t *table, size_t room)
 {
-    place p = {0};
+    place p = {.edition = PLAIN_2025};
     line l = {0};
     size_t start = 0;
     for (l.number = 1; l.kind != FIMDIRF; l.number++) {
@@ -239,6 +266,10 @@ static plain_answer check(const uint8_t *file, size_t file_len,
         uint32_t number = end_line(file + start, file_len - start, &len);
         if (number != 0)
             return refused(number, l.number, 0);
+        /* Not before line 1 has passed 4 to 6: these are the same by either
+           edition, and in such a file the sixth bar may be very far away. */
+        if (l.number == 1)
+            p.edition = plain_edition_of(file, file_len);
         l.bytes = (part){file + start, len};
         fault found = line_fault(&p, &l);
         if (found.number != 0)

@@ -1,19 +1,31 @@
-/* Dirf 2025: the check of a file, the field reader, the readers and writers of
-   amounts and month counts, and the line writer, as document 01 sets them.
+/* Dirf: the check of a file, the field reader, the readers and writers of
+   amounts and month counts, and the line writer, as document 01 sets them for
+   2025 and change A4 of document 02 for the older edition.
    Every function takes every input; a pointer may be NULL where its length or
-   room is 0. An output never overlaps an input. */
+   room is 0. An output never overlaps an input. An edition is one of the two. */
 #ifndef PLAIN_H
 #define PLAIN_H
 
 #include <stddef.h>
 #include <stdint.h>
 
+/* The two editions of the layout. 2022 is document 000's, with its own line 1
+   and without RTDS and ESDS. */
+typedef enum { PLAIN_2025, PLAIN_2022 } plain_edition;
+
+/* The edition by which a file is judged: field 6 of its line 1, with its bar,
+   picks it. Line 1 is here all bytes before the first CR LF, or all that there
+   are, however many; a lone CR or LF does not end it. No byte past that CR LF
+   is looked at, and none past the sixth bar. */
+plain_edition plain_edition_of(const uint8_t *file, size_t file_len);
+
 /* number 0: accepted, line is the last line. Else the first breach. */
 typedef struct { uint32_t number, line, field; size_t entries; } plain_answer;
 
-/* The check. The table has table_len numbers, four an entry: kind, start,
-   length without the line end, parent's line number. Room is table_len / 4.
-   Numbers that are no part of an entry of the answer stay untouched. */
+/* The check, by the file's own edition. The table has table_len numbers, four
+   an entry: kind, start, length without the line end, parent's line number.
+   Room is table_len / 4. Numbers that are no part of an entry of the answer
+   stay untouched. */
 plain_answer plain_check(const uint8_t *file, size_t file_len,
                          uint32_t *table, size_t table_len);
 
@@ -34,18 +46,20 @@ typedef struct { uint32_t number, field; size_t count; } plain_written;
 plain_written plain_write_amount(uint64_t value, uint8_t *out, size_t room);
 plain_written plain_write_months(uint64_t value, uint8_t *out, size_t room);
 
-/* The line writer: a kind, the contents of all fields one after another,
-   their lengths, and an output. */
-plain_written plain_write_line(uint32_t kind,
+/* The line writer: an edition, a kind, the contents of all fields one after
+   another, their lengths, and an output. */
+plain_written plain_write_line(plain_edition edition, uint32_t kind,
                                const uint8_t *contents, size_t contents_len,
                                const size_t *lengths, size_t lengths_len,
                                uint8_t *out, size_t room);
 
-/* Kinds run from 1 to plain_kinds(); NULL and 0 stand for "no such kind". */
+/* Kinds run from 1 to plain_kinds(), with one number and name in both editions;
+   NULL and 0 stand for "no such kind". A kind that the edition lacks is no base
+   kind there, has no fields and no rows, and stands below nothing. */
 unsigned plain_kinds(void);
 const char *plain_name(unsigned kind);
-int plain_is_base(unsigned kind);
-unsigned plain_fields(unsigned kind);
+int plain_is_base(plain_edition edition, unsigned kind);
+unsigned plain_fields(plain_edition edition, unsigned kind);
 
 /* The row of field f, from 1, of a base kind; all zero where there is none. */
 typedef struct {
@@ -56,10 +70,10 @@ typedef struct {
     const char *values;     /* printed values joined by a comma, or NULL */
     int amount, months, ddd, telephone, cpf_or_cnpj;
 } plain_row;
-plain_row plain_field_row(unsigned kind, unsigned f);
+plain_row plain_field_row(plain_edition edition, unsigned kind, unsigned f);
 
 /* 1 if the child kind may stand directly below the parent kind under the
    declarant kind (3 DECPF, 4 DECPJ). */
-int plain_below(unsigned declarant, unsigned parent, unsigned child);
+int plain_below(plain_edition edition, unsigned declarant, unsigned parent, unsigned child);
 
 #endif

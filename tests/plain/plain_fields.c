@@ -93,10 +93,10 @@ static uint32_t condition_broken(const part *fields)
     return f13.len != 0 ? 13 : 0;
 }
 
-fault plain_fields_fault(uint32_t kind, const part *fields)
+fault plain_fields_fault(plain_edition edition, uint32_t kind, const part *fields)
 {
     for (unsigned f = 1; f <= plain_records[kind].fields; f++) {
-        row r = plain_row_of(kind, f);
+        row r = plain_row_of(edition, kind, f);
         uint32_t number = field_fault(&r, fields[f - 1]);
         if (number != 0)
             return (fault){number, f};

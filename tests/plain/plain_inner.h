@@ -28,7 +28,8 @@ enum role { LATER, HEAD, DECLARANT, CODE, BLOCK, BENEFICIARY, VALUE, END };
 enum rule { NO_RULE, AMOUNT, MONTHS, DDD, TELEPHONE, CPF_OR_CNPJ };
 
 enum { BAR = 124, CR = 13, LF = 10 };
-enum { MOST_FIELDS = 15 };
+enum { MOST_FIELDS = 15, MARK_FIELD = 6 };
+enum { EDITIONS = 2 };
 enum { AMOUNT_DIGITS = 13, MONTHS_DIGITS = 4 };
 
 /* One row of the field tables. */
@@ -38,11 +39,12 @@ typedef struct {
     const char *values;
 } row;
 
-/* One kind. rows begin at field 2; field 1, the identifier, is name's own. */
+/* One kind. Each edition's rows begin at field 2, and most kinds have the same
+   for both; field 1, the identifier, is name's own. */
 typedef struct {
     char name[8];
     uint8_t name_len, name_fixed, name_size, role, fields;
-    const row *rows;
+    const row *rows[EDITIONS];
 } record;
 
 /* A part of somebody else's bytes. */
@@ -53,13 +55,19 @@ typedef struct { uint32_t number, field; } fault;
 
 extern const record plain_records[KINDS + 1];
 
-/* The kind that an identifier names, or NO_KIND. */
-uint32_t plain_kind_of(part identifier);
+/* Whether the edition knows the kind: all but these two are in both. */
+static inline int plain_has(plain_edition edition, uint32_t kind)
+{
+    return edition == PLAIN_2025 || (kind != RTDS && kind != ESDS);
+}
+
+/* The kind that an identifier names in the edition, or NO_KIND. */
+uint32_t plain_kind_of(plain_edition edition, part identifier);
 
 /* The row of field f, which has to be one of the kind's fields. */
-row plain_row_of(uint32_t kind, unsigned f);
+row plain_row_of(plain_edition edition, uint32_t kind, unsigned f);
 
 /* 13 to 18 over all fields of a base kind, then 19. */
-fault plain_fields_fault(uint32_t kind, const part *fields);
+fault plain_fields_fault(plain_edition edition, uint32_t kind, const part *fields);
 
 #endif

@@ -51,19 +51,19 @@ static void write_fields(const part *fields, size_t count, uint8_t *out)
     out[1] = LF;
 }
 
-plain_written plain_write_line(uint32_t kind,
+plain_written plain_write_line(plain_edition edition, uint32_t kind,
                                const uint8_t *contents, size_t contents_len,
                                const size_t *lengths, size_t lengths_len,
                                uint8_t *out, size_t room)
 {
     part fields[MOST_FIELDS];
-    if (!plain_is_base(kind))
+    if (!plain_is_base(edition, kind))
         return (plain_written){22, 0, 0};
     if (lengths_len != plain_records[kind].fields)
         return (plain_written){11, 0, 0};
     if (!cut_contents((part){contents, contents_len}, lengths, lengths_len, fields))
         return (plain_written){23, 0, 0};
-    fault found = plain_fields_fault(kind, fields);
+    fault found = plain_fields_fault(edition, kind, fields);
     if (found.number != 0)
         return (plain_written){found.number, found.field, 0};
     /* The sizes passed, so this sum is small. */

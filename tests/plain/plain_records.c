@@ -6,14 +6,21 @@
 enum { VARIABLE, FIXED };
 enum { OPTIONAL, OBLIGATORY };
 
-/* 3.1, fields 2 to 6 */
-static const row dirf_rows[] = {
-    {'N', FIXED, 4, OBLIGATORY, NO_RULE, "2025"},
-    {'N', FIXED, 4, OBLIGATORY, NO_RULE, "2024"},
-    {'C', FIXED, 1, OBLIGATORY, NO_RULE, "S,N"},
-    {'N', FIXED, 12, OPTIONAL, NO_RULE, NULL},
-    {'C', FIXED, 7, OBLIGATORY, NO_RULE, "R6GP3ZA"},
+/* 3.1, fields 2 to 6: the editions differ in the values of three of them */
+#define DIRF_ROWS(year, calendar_years, mark) { \
+    {'N', FIXED, 4, OBLIGATORY, NO_RULE, year}, \
+    {'N', FIXED, 4, OBLIGATORY, NO_RULE, calendar_years}, \
+    {'C', FIXED, 1, OBLIGATORY, NO_RULE, "S,N"}, \
+    {'N', FIXED, 12, OPTIONAL, NO_RULE, NULL}, \
+    {'C', FIXED, 7, OBLIGATORY, NO_RULE, mark}, \
+}
+
+static const row dirf_rows[EDITIONS][5] = {
+    [PLAIN_2025] = DIRF_ROWS("2025", "2024", "R6GP3ZA"),
+    [PLAIN_2022] = DIRF_ROWS("2022", "2021,2022", "XJFSFHB"),
 };
+
+/* All that follows is the same in both editions. */
 
 /* 3.2, fields 2 to 8 */
 static const row respo_rows[] = {
@@ -157,17 +164,19 @@ static const row bpjscp_rows[] = {
     {'C', VARIABLE, 4, OPTIONAL, NO_RULE, NULL},
 };
 
-#define ROWS(rows) 1 + sizeof (rows) / sizeof *(rows), rows
+/* The count of fields and the rows of each edition, shared or its own. */
+#define ROWS(rows) 1 + sizeof (rows) / sizeof *(rows), {rows, rows}
+#define OWN_ROWS(rows) 1 + sizeof *(rows) / sizeof **(rows), {(rows)[0], (rows)[1]}
 #define ONE(name, role, rows) \
     {name, sizeof name - 1, FIXED, sizeof name - 1, role, ROWS(rows)}
 #define MONTHLY(name) \
     {name, sizeof name - 1, VARIABLE, 5, VALUE, ROWS(monthly_rows)}
 #define YEARLY(name) \
     {name, sizeof name - 1, VARIABLE, 6, VALUE, ROWS(yearly_rows)}
-#define LEFT(name) {name, sizeof name - 1, FIXED, sizeof name - 1, LATER, 0, NULL}
+#define LEFT(name) {name, sizeof name - 1, FIXED, sizeof name - 1, LATER, 0, {NULL}}
 
 const record plain_records[KINDS + 1] = {
-    [DIRF] = ONE("Dirf", HEAD, dirf_rows),
+    [DIRF] = {"Dirf", 4, FIXED, 4, HEAD, OWN_ROWS(dirf_rows)},
     [RESPO] = ONE("RESPO", HEAD, respo_rows),
     [DECPF] = ONE("DECPF", DECLARANT, decpf_rows),
     [DECPJ] = ONE("DECPJ", DECLARANT, decpj_rows),
@@ -239,25 +248,25 @@ const record plain_records[KINDS + 1] = {
     [BRPDE] = LEFT("BRPDE"),
     [VRPDE] = LEFT("VRPDE"),
     [INF] = LEFT("INF"),
-    [FIMDIRF] = {"FIMDirf", 7, FIXED, 7, END, 1, NULL},
+    [FIMDIRF] = {"FIMDirf", 7, FIXED, 7, END, 1, {NULL}},
 };
 
-uint32_t plain_kind_of(part identifier)
+uint32_t plain_kind_of(plain_edition edition, part identifier)
 {
     for (uint32_t kind = 1; kind <= KINDS; kind++) {
         const record *r = &plain_records[kind];
         if (r->name_len == identifier.len
             && memcmp(r->name, identifier.bytes, identifier.len) == 0)
-            return kind;
+            return plain_has(edition, kind) ? kind : NO_KIND;
     }
     return NO_KIND;
 }
 
-row plain_row_of(uint32_t kind, unsigned f)
+row plain_row_of(plain_edition edition, uint32_t kind, unsigned f)
 {
     const record *r = &plain_records[kind];
     if (f > 1)
-        return r->rows[f - 2];
+        return r->rows[edition][f - 2];
     /* A line of this kind can hold no other of the printed identifiers. */
     row name = {'C', r->name_fixed, r->name_size, OBLIGATORY, NO_RULE, r->name};
     return name;
@@ -273,22 +282,23 @@ const char *plain_name(unsigned kind)
     return kind >= 1 && kind <= KINDS ? plain_records[kind].name : NULL;
 }
 
-int plain_is_base(unsigned kind)
+int plain_is_base(plain_edition edition, unsigned kind)
 {
-    return kind >= 1 && kind <= KINDS && plain_records[kind].role != LATER;
+    return kind >= 1 && kind <= KINDS && plain_records[kind].role != LATER
+        && plain_has(edition, kind);
 }
 
-unsigned plain_fields(unsigned kind)
+unsigned plain_fields(plain_edition edition, unsigned kind)
 {
-    return plain_is_base(kind) ? plain_records[kind].fields : 0;
+    return plain_is_base(edition, kind) ? plain_records[kind].fields : 0;
 }
 
-plain_row plain_field_row(unsigned kind, unsigned f)
+plain_row plain_field_row(plain_edition edition, unsigned kind, unsigned f)
 {
     plain_row out = {0};
-    if (f < 1 || f > plain_fields(kind))
+    if (f < 1 || f > plain_fields(edition, kind))
         return out;
-    row r = plain_row_of(kind, f);
+    row r = plain_row_of(edition, kind, f);
     out.format = r.format;
     out.fixed = r.fixed;
     out.size = r.size;

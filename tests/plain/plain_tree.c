@@ -1,4 +1,5 @@
-/* Which record may stand directly below which: yes or no, for each declarant. */
+/* Which record may stand directly below which: yes or no, for each declarant.
+   Both editions share it; the older one only lacks two of the records. */
 #include "plain_inner.h"
 
 #define YES(kind) [kind] = 1
@@ -54,9 +55,9 @@ static const uint8_t below_decpj[KINDS + 1][KINDS + 1] = {
     [BPJSCP] = {YES(RISCP)},
 };
 
-int plain_below(unsigned declarant, unsigned parent, unsigned child)
+int plain_below(plain_edition edition, unsigned declarant, unsigned parent, unsigned child)
 {
-    if (parent > KINDS || child > KINDS)
+    if (parent > KINDS || child > KINDS || !plain_has(edition, child))
         return 0;
     if (declarant == DECPF)
         return below_decpf[parent][child];

@@ -52,9 +52,21 @@ static int value_listed(const char *values, const uint8_t *at, size_t len)
     return 0;
 }
 
-uint32_t naive_field(unsigned kind, unsigned f, const uint8_t *at, size_t len)
+plain_edition naive_edition(const uint8_t *file, size_t len)
 {
-    plain_row r = plain_field_row(kind, f);
+    static const char tail[] = "|XJFSFHB|";
+    size_t bars = 0, piece = 0;
+    while (piece < len && (piece + 1 == len || memcmp(file + piece, "\r\n", 2) != 0))
+        piece++;
+    for (size_t i = 0; i < piece; i++)
+        if (file[i] == '|' && ++bars == 6)
+            return i >= 8 && memcmp(file + i - 8, tail, 9) == 0 ? PLAIN_2022 : PLAIN_2025;
+    return PLAIN_2025;
+}
+
+uint32_t naive_field(plain_edition edition, unsigned kind, unsigned f, const uint8_t *at, size_t len)
+{
+    plain_row r = plain_field_row(edition, kind, f);
     if (len == 0)
         return r.obligatory ? 13 : 0;
     for (size_t i = 0; i < len; i++) {
@@ -99,7 +111,7 @@ static int block_fits(const uint32_t *table, uint32_t code, unsigned kind)
 }
 
 /* The parent's line, or -1 if the record may not stand here. */
-static long parent_of(const uint32_t *table, uint32_t n, unsigned kind)
+static long parent_of(plain_edition edition, const uint32_t *table, uint32_t n, unsigned kind)
 {
     if (n <= 3)
         return n == 1 ? (is(kind, "Dirf") ? 0 : -1)
@@ -108,7 +120,7 @@ static long parent_of(const uint32_t *table, uint32_t n, unsigned kind)
     if (is(kind, "FIMDirf"))
         return 0;
     for (uint32_t up = n - 1; up >= 3; up = PARENT(up)) {
-        if (!plain_below(KIND(3), KIND(up), kind))
+        if (!plain_below(edition, KIND(3), KIND(up), kind))
             continue;
         if (is_beneficiary(kind) && !block_fits(table, up, kind))
             return -1;
@@ -161,17 +173,17 @@ static uint32_t condition(const uint8_t *line, size_t len)
 
 typedef struct { uint32_t number, field; } breach;
 
-static breach fields_breach(unsigned kind, const uint8_t *line, size_t len)
+static breach fields_breach(plain_edition edition, unsigned kind, const uint8_t *line, size_t len)
 {
     size_t bars = 0;
     for (size_t i = 0; i < len; i++)
         bars += line[i] == '|';
-    if (bars != plain_fields(kind))
+    if (bars != plain_fields(edition, kind))
         return (breach){11, 0};
     for (unsigned f = 1; f <= bars; f++) {
         size_t s, l;
         plain_field(line, len, f, &s, &l);
-        uint32_t number = naive_field(kind, f, line + s, l);
+        uint32_t number = naive_field(edition, kind, f, line + s, l);
         if (number)
             return (breach){number, f};
     }
@@ -188,7 +200,13 @@ static unsigned kind_named(const uint8_t *line, size_t len)
     return 0;
 }
 
-static breach line_breach(const uint8_t *file, uint32_t *table, uint32_t n,
+/* The two records that document 000 does not have. */
+static int is_newer(unsigned kind)
+{
+    return is(kind, "RTDS") || is(kind, "ESDS");
+}
+
+static breach line_breach(plain_edition edition, const uint8_t *file, uint32_t *table, uint32_t n,
                           size_t start, size_t len)
 {
     const uint8_t *line = file + start;
@@ -197,14 +215,14 @@ static breach line_breach(const uint8_t *file, uint32_t *table, uint32_t n,
         return (breach){8, 0};
     plain_field(line, len, 1, &s, &l);
     unsigned kind = kind_named(line, l);
-    if (!kind)
+    if (!kind || (edition == PLAIN_2022 && is_newer(kind)))
         return (breach){9, 1};
-    if (!plain_is_base(kind))
+    if (!plain_is_base(edition, kind))
         return (breach){10, 1};
-    long parent = parent_of(table, n, kind);
+    long parent = parent_of(edition, table, n, kind);
     if (parent < 0)
         return (breach){12, 1};
-    breach b = fields_breach(kind, line, len);
+    breach b = fields_breach(edition, kind, line, len);
     if (b.number)
         return b;
     uint32_t before = 0;
@@ -225,6 +243,7 @@ static breach line_breach(const uint8_t *file, uint32_t *table, uint32_t n,
 
 plain_answer naive_check(const uint8_t *file, size_t len, uint32_t *table, size_t room)
 {
+    plain_edition edition = naive_edition(file, len);
     size_t at = 0;
     for (uint32_t n = 1;; n++) {
         int ended = n > 1 && is(KIND(n - 1), "FIMDirf");
@@ -240,7 +259,7 @@ plain_answer naive_check(const uint8_t *file, size_t len, uint32_t *table, size_
                    : !(cr && lf) ? 6 : 0;
         if (number)
             return (plain_answer){number, n, 0, n - 1};
-        breach b = line_breach(file, table, n, at, i - at);
+        breach b = line_breach(edition, file, table, n, at, i - at);
         if (b.number)
             return (plain_answer){b.number, n, b.field, n - 1};
         if (room < n)

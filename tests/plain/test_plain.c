@@ -1,17 +1,22 @@
 /* The tests: the marked examples, every number alone, the order of the numbers,
-   the tree, every field row, cuts, rooms, random bytes and changed files. */
+   the tree, every field row, cuts, rooms, random bytes and changed files, all of
+   it in both editions; then the editions beside each other. */
+#define _DEFAULT_SOURCE                 /* for mmap, which C itself does not have */
 #include <stdio.h>
 #include <stdlib.h>
 #include <string.h>
+#include <sys/mman.h>
 
 #include "plain.h"
 #include "test_naive.h"
 #include "test_people.h"
+#include "test_source.h"
 
 #define UNTOUCHED 0xA5A5A5A5u
 
 static unsigned long cases, wrong;
 static unsigned long given[32];         /* how often each number was seen */
+static plain_edition edition;           /* the one that the tests are run in */
 
 static void is_true(int ok, const char *what, unsigned long a, unsigned long b)
 {
@@ -54,18 +59,43 @@ static void add(text *t, const char *s)
     add_bytes(t, s, strlen(s));
 }
 
-/* A test's own line; {cpf 7} and {cnpj 7} in it stand for the numbers of serial 7. */
-static void add_line(text *t, const char *s)
+#define DIRF_LINE "Dirf|{year}|{calendar}|N||{mark}|"
+#define LINE_2025 "Dirf|2025|2024|N||R6GP3ZA|"
+#define LINE_2022 "Dirf|2022|2021|N||XJFSFHB|"
+
+/* Where {year}, {calendar} or {mark} stands at s, the edition's own goes into out; gives the bytes passed over, else 0. */
+static size_t edition_stand_in(const char *s, char *out)
+{
+    static const char *const names[] = {"{year}", "{calendar}", "{mark}"};
+    static const char *const own[][3] = {
+        [PLAIN_2025] = {"2025", "2024", "R6GP3ZA"}, [PLAIN_2022] = {"2022", "2021", "XJFSFHB"}};
+    for (unsigned i = 0; *s == '{' && i < 3; i++)
+        if (strncmp(s, names[i], strlen(names[i])) == 0) {
+            strcpy(out, own[edition][i]);
+            return strlen(names[i]);
+        }
+    return 0;
+}
+
+/* A test's own text; {cpf 7} and {cnpj 7} in it stand for the numbers of serial 7, {year} and the like for the edition's. */
+static void add_text(text *t, const char *s)
 {
     while (*s) {
-        char id[PEOPLE_ID];
-        size_t used = people_stand_in(s, id);
+        char word[PEOPLE_ID];
+        size_t used = people_stand_in(s, word);
+        if (used == 0)
+            used = edition_stand_in(s, word);
         if (used > 0)
-            add(t, id);
+            add(t, word);
         else
             add_bytes(t, s, 1);
         s += used ? used : 1;
     }
+}
+
+static void add_line(text *t, const char *s)
+{
+    add_text(t, s);
     add(t, "\r\n");
 }
 
@@ -73,6 +103,16 @@ static void drop(text *t)
 {
     free(t->bytes);
     *t = (text){0};
+}
+
+static void splice(text *t, size_t start, size_t end, const void *with, size_t len)
+{
+    text out = {0};
+    add_bytes(&out, t->bytes, start);
+    add_bytes(&out, with, len);
+    add_bytes(&out, t->bytes + end, t->len - end);
+    drop(t);
+    *t = out;
 }
 
 /* ---- one run of the check, compared in every way ---- */
@@ -85,6 +125,23 @@ static void *exact_copy(const void *bytes, size_t len)
     if (len > 0)
         memcpy(copy, bytes, len);
     return copy;
+}
+
+/* Bytes that end where readable memory ends: a look at the byte after them stops the tests. The next copy takes their place. */
+static uint8_t *edge_copy(const void *bytes, size_t len)
+{
+    enum { HALF = 1 << 17 };            /* whole pages on every usual machine */
+    static uint8_t *area;
+    if (area == NULL) {
+        area = mmap(NULL, 2 * HALF, PROT_READ | PROT_WRITE, MAP_PRIVATE | MAP_ANONYMOUS, -1, 0);
+        if (area == MAP_FAILED || mprotect(area + HALF, HALF, PROT_NONE) != 0)
+            abort();
+    }
+    if (len > HALF)
+        abort();
+    if (len > 0)
+        memcpy(area + HALF - len, bytes, len);
+    return area + HALF - len;
 }
 
 static int equal(plain_answer a, plain_answer b)
@@ -134,6 +191,7 @@ static plain_answer run(const uint8_t *bytes, size_t len, size_t room)
     uint32_t *slow = calloc(lines, 16), *quick = calloc(lines, 16);
     plain_answer a = run_plain(bytes, len, room < lines ? room : lines, quick);
     plain_answer b = naive_check(bytes, len, slow, room);
+    is_true(plain_edition_of(bytes, len) == naive_edition(bytes, len), "edition as the slow reading", a.number, a.line);
     is_true(equal(a, b), "as the slow reading", a.number * 100000ul + a.line,
             b.number * 100000ul + b.line);
     is_true(memcmp(slow, quick, 16 * (a.entries < lines ? a.entries : 0)) == 0,
@@ -173,7 +231,6 @@ static void expect(const char *what, const text *t, uint32_t number, uint32_t li
 
 /* ---- parts of files ---- */
 
-#define DIRF_LINE "Dirf|2025|2024|N||R6GP3ZA|"
 #define RESPO_LINE "RESPO|11144477735|ANA LIMA|11|33334444||||"
 #define DESK_DECPF_LINE "DECPF|11144477735|ANA LIMA|N|N|N|S|N|||N|||||"
 #define FOURTEEN(id) id "|1||||||||||||9999999999999|"
@@ -195,10 +252,10 @@ static text head(unsigned declarant, int scp)
     return t;
 }
 
-/* Document 01's file as printed, by no maker, with line n changed where n is not 0. */
+/* Document 01's file as printed, by no maker, with line n changed where n is not 0; the older edition has its own line 1. */
 static text desk_changed(unsigned n, const char *line)
 {
-    static const char *const printed[] = {DIRF_LINE, RESPO_LINE, DESK_DECPF_LINE,
+    const char *const printed[] = {edition == PLAIN_2025 ? LINE_2025 : LINE_2022, RESPO_LINE, DESK_DECPF_LINE,
         "SCP|11222333000181|SCP SERRA|", "BPFSCP|11144477735|ANA LIMA||", "FIMDirf|"};
     text t = {0};
     for (unsigned i = 1; i <= 6; i++)
@@ -262,7 +319,7 @@ static void expect_bytes(const char *what, const char *s, uint32_t number, uint3
                          uint32_t field)
 {
     text t = {0};
-    add(&t, s);
+    add_text(&t, s);
     expect(what, &t, number, line, field);
     drop(&t);
 }
@@ -311,9 +368,13 @@ static void test_makers(void)
     }
     people_declarant(DECPF, 1, NULL, line);
     is_true(strcmp(line, DESK_DECPF_LINE) == 0, "document 01's declarant", 0, 0);
+    text t = {0};
+    add_line(&t, DIRF_LINE);
+    is_true(memcmp(t.bytes, edition == PLAIN_2025 ? LINE_2025 "\r\n" : LINE_2022 "\r\n", t.len) == 0 && t.len == 28, "line 1", 0, 0);
+    drop(&t);
     for (unsigned kind = 1; kind <= plain_kinds(); kind++)
-        for (unsigned f = 1; f <= plain_fields(kind); f++) {
-            plain_row r = plain_field_row(kind, f);
+        for (unsigned f = 1; f <= plain_fields(edition, kind); f++) {
+            plain_row r = plain_field_row(edition, kind, f);
             int sized = r.format == 'N' && r.fixed && (r.size == 11 || r.size == 14);
             is_true(people_is_id(plain_name(kind), f) == (sized || r.cpf_or_cnpj), plain_name(kind), kind, f);
         }
@@ -376,7 +437,7 @@ static void test_marked(void)
     add(&t, "\n");
     expect("M4", &t, 2, 7, 0);
     drop(&t);
-    expect_desk("M5", 1, "DIRF|2025|2024|N||R6GP3ZA|", 9, 1, 1);
+    expect_desk("M5", 1, "DIRF|{year}|{calendar}|N||{mark}|", 9, 1, 1);
     expect_after("M6", DECPF, "SCP|11222333000181|SCP SERRA|~BPFSCP|11144477735|ANA LIMA||"
                  "~FIMDirf", 8, 6, 0);
     expect_desk("M7", 3, "DECPF|11144477735|ANA LIMA|N|N|N|S|S|||N|||||", 19, 3, 9);
@@ -456,13 +517,13 @@ static void test_records_alone(void)
     expect_after("16", DECPJ, "PROC|1|7||||01|", 16, 4, 7);
     expect_head("16 DDD", NULL, "RESPO|11144477735|ANA|09|33334444||||", 16, 2, 4);
     expect_declarant("17", DECPF, "S|20230229|2|N|||||", 17, 3, 9);
-    expect_head("18", "Dirf|2024|2024|N||R6GP3ZA|", NULL, 18, 1, 2);
-    expect_head("18", "Dirf|2025|2025|N||R6GP3ZA|", NULL, 18, 1, 3);
-    expect_head("18", "Dirf|2025|2024|n||R6GP3ZA|", NULL, 18, 1, 4);
+    expect_head("18", "Dirf|2024|{calendar}|N||{mark}|", NULL, 18, 1, 2);
+    expect_head("18", "Dirf|{year}|2025|N||{mark}|", NULL, 18, 1, 3);
+    expect_head("18", "Dirf|{year}|{calendar}|n||{mark}|", NULL, 18, 1, 4);
     expect_head("18", "Dirf|2025|2024|N||R6GP3Za|", NULL, 18, 1, 6);
-    expect_head("retificadora passes", "Dirf|2025|2024|S||R6GP3ZA|", NULL, 0, 4, 0);
-    expect_head("recibo passes", "Dirf|2025|2024|S|000000000000|R6GP3ZA|", NULL, 0, 4, 0);
-    expect_head("15 recibo", "Dirf|2025|2024|S|00000000000|R6GP3ZA|", NULL, 15, 1, 5);
+    expect_head("retificadora passes", "Dirf|{year}|{calendar}|S||{mark}|", NULL, 0, 4, 0);
+    expect_head("recibo passes", "Dirf|{year}|{calendar}|S|000000000000|{mark}|", NULL, 0, 4, 0);
+    expect_head("15 recibo", "Dirf|{year}|{calendar}|S|00000000000|{mark}|", NULL, 15, 1, 5);
 }
 
 
@@ -619,9 +680,10 @@ static void test_order_of_lines(void)
 static void test_order_in_line_one(void)
 {
     expect_bytes("11 before 13", "Dirf|||||\r\n", 11, 1, 0);
-    expect_bytes("11 before 18", "Dirf|2024|2024|N||R6GP3ZA||\r\n", 11, 1, 0);
-    expect_bytes("lowest field first", "Dirf|2024||X|1|Z|\r\n", 18, 1, 2);
-    expect_bytes("13 in the first field", "Dirf||2023|X|1|Z|\r\n", 13, 1, 2);
+    expect_bytes("11 before 18", "Dirf|2024|2024|N||{mark}||\r\n", 11, 1, 0);
+    expect_bytes("lowest field first", "Dirf|2024||X|1|{mark}|\r\n", 18, 1, 2);
+    expect_bytes("lowest field first, no mark", "Dirf|2024||X|1|Z|\r\n", 18, 1, 2);
+    expect_bytes("13 in the first field", "Dirf||2023|X|1|{mark}|\r\n", 13, 1, 2);
 }
 
 static void test_order_of_fields(void)
@@ -691,7 +753,7 @@ static void test_seven_is_last(void)
 /* A good content of field f, with room for 150 bytes and a 0; a declarant without an SCP block. */
 static void good_field(unsigned kind, unsigned f, unsigned serial, char *out)
 {
-    plain_row r = plain_field_row(kind, f);
+    plain_row r = plain_field_row(edition, kind, f);
     const char *name = plain_name(kind), *flag = people_flag(kind, f, 0);
     if (flag != NULL)
         strcpy(out, flag);
@@ -718,7 +780,7 @@ static void good_field(unsigned kind, unsigned f, unsigned serial, char *out)
 static void good_line(unsigned kind, unsigned serial, char *out)
 {
     out[0] = 0;
-    for (unsigned f = 1; f <= plain_fields(kind); f++) {
+    for (unsigned f = 1; f <= plain_fields(edition, kind); f++) {
         char field[160];
         good_field(kind, f, serial, field);
         strcat(out, field);
@@ -738,7 +800,7 @@ static plain_written write_fields(unsigned kind, const char *joined, uint8_t *ou
     }
     uint8_t *c = exact_copy(contents, len);
     size_t *l = exact_copy(lengths, fields * sizeof *lengths);
-    plain_written w = plain_write_line(kind, c, len, l, fields, out, room);
+    plain_written w = plain_write_line(edition, kind, c, len, l, fields, out, room);
     free(c);
     free(l);
     if (w.number < 32)
@@ -771,14 +833,10 @@ static text path_file(unsigned declarant, const char *path, const char *next, ui
     return t;
 }
 
-static int holds(const char *list, const char *name)
+/* The two records that the older edition does not know. */
+static int lacking(const char *name)
 {
-    char word[16];
-    int used;
-    for (const char *s = list; sscanf(s, "%15s%n", word, &used) == 1; s += used)
-        if (strcmp(word, name) == 0)
-            return 1;
-    return 0;
+    return edition == PLAIN_2022 && source_holds("RTDS ESDS", name);
 }
 
 /* After a path, exactly the named kinds and the beneficiary's values may stand. */
@@ -789,20 +847,20 @@ static void test_path(unsigned declarant, const char *path, const char *benefici
         char line[512];
         uint32_t lines;
         const char *name = plain_name(kind);
-        int value = plain_below(declarant, named(beneficiary), kind);
+        int value = plain_below(edition, declarant, named(beneficiary), kind);
         text t = path_file(declarant, path, name, &lines);
         good_line(kind, 2, line);
-        add_line(&t, plain_is_base(kind) ? line : strcat(strcpy(line, name), "|"));
-        if (!plain_is_base(kind))
-            expect("left for later", &t, 10, lines + 1, 1);
-        else if (!holds(may, name) && !value)
+        add_line(&t, plain_is_base(edition, kind) ? line : strcat(strcpy(line, name), "|"));
+        if (!plain_is_base(edition, kind))
+            expect("lacking or left for later", &t, lacking(name) ? 9 : 10, lines + 1, 1);
+        else if (!source_holds(may, name) && !value)
             expect(name, &t, 12, lines + 1, 1);
         else if (strcmp(name, "FIMDirf") == 0)
             expect(name, &t, 0, lines + 1, 0);
         else
-            expect(name, &t, value && holds(path, name) ? 21 : 1,
-                   lines + (value && holds(path, name) ? 1 : 2),
-                   value && holds(path, name));
+            expect(name, &t, value && source_holds(path, name) ? 21 : 1,
+                   lines + (value && source_holds(path, name) ? 1 : 2),
+                   value && source_holds(path, name));
         drop(&t);
     }
 }
@@ -949,25 +1007,33 @@ static const char *path_to(unsigned kind, unsigned *declarant)
     return NULL;
 }
 
-/* The file with one line of the kind given, all fields good but field f. */
-static void test_field_value(unsigned kind, unsigned f, const char *value, uint32_t number)
+/* A line of the kind written, all fields good but field f; the line itself goes into line. */
+static void test_field_written(unsigned kind, unsigned f, const char *value, uint32_t number, char *line)
 {
-    char line[2048] = "", field[160];
+    char field[160];
     uint8_t out[2048];
-    uint32_t lines = kind < 4 ? kind - 1 : 2;
-    unsigned d;
-    for (unsigned g = 1; g <= plain_fields(kind); g++) {
+    line[0] = 0;
+    for (unsigned g = 1; g <= plain_fields(edition, kind); g++) {
         good_field(kind, g, 2, field);
         strcat(strcat(line, g == f ? value : field), "|");
     }
     plain_written w = write_fields(kind, line, out, sizeof out);
     is_true(w.number == number && w.field == (number ? f : 0), plain_name(kind), f, w.number);
-    is_true(naive_field(kind, f, (const uint8_t *)value, strlen(value)) == number
+    is_true(naive_field(edition, kind, f, (const uint8_t *)value, strlen(value)) == number
             || number == 19, "slow field", f, number);
     is_true(number ? w.count == 0 : w.count == strlen(line) + 2, "count", w.count, f);
     if (!number)
         is_true(memcmp(out, line, strlen(line)) == 0
                 && memcmp(out + strlen(line), "\r\n", 2) == 0, "line written", kind, f);
+}
+
+/* The same line by the writer and in a file. */
+static void test_field_value(unsigned kind, unsigned f, const char *value, uint32_t number)
+{
+    char line[2048];
+    uint32_t lines = kind < 4 ? kind - 1 : 2;
+    unsigned d;
+    test_field_written(kind, f, value, number, line);
     if (f == 1 && number)
         return;
     text t = {0};
@@ -978,7 +1044,10 @@ static void test_field_value(unsigned kind, unsigned f, const char *value, uint3
         for (uint32_t n = 1; n <= lines; n++)
             add_line(&t, n == 1 ? DIRF_LINE : RESPO_LINE);
     add_line(&t, line);
-    if (number || kind == 73)
+    /* Without its mark the older edition's line 1 is judged by the years of 2025. */
+    if (number && edition == PLAIN_2022 && kind == 1 && f == 6)
+        expect("no mark", &t, 18, 1, 2);
+    else if (number || kind == 73)
         expect(plain_name(kind), &t, number, lines + 1, number ? f : 0);
     else
         expect(plain_name(kind), &t, 1, lines + 2, 0);
@@ -1069,9 +1138,9 @@ static void test_every_row(void)
     size_t longest = 0;
     for (unsigned kind = 1; kind <= plain_kinds(); kind++) {
         size_t length = 0;
-        base += plain_is_base(kind) != 0;
-        for (unsigned f = 1; f <= plain_fields(kind); f++) {
-            plain_row r = plain_field_row(kind, f);
+        base += plain_is_base(edition, kind) != 0;
+        for (unsigned f = 1; f <= plain_fields(edition, kind); f++) {
+            plain_row r = plain_field_row(edition, kind, f);
             rows++;
             length += (f == 1 ? strlen(plain_name(kind)) : r.size) + 1;
             is_true(r.size >= 1 && r.size <= 150, "size range", kind, f);
@@ -1085,8 +1154,8 @@ static void test_every_row(void)
         longest = length > longest ? length : longest;
     }
     is_true(plain_kinds() == 73, "73 kinds", plain_kinds(), 0);
-    is_true(base == 56, "56 in the base", base, 0);
-    is_true(rows == 561, "561 rows", rows, 0);
+    is_true(base == (edition == PLAIN_2025 ? 56 : 54), "56 or 54 in the base", base, 0);
+    is_true(rows == (edition == PLAIN_2025 ? 561 : 533), "561 or 533 rows", rows, 0);
     is_true(longest == 211, "longest line 211", longest, 0);
 }
 
@@ -1238,7 +1307,7 @@ static void expect_written(const char *what, unsigned kind, const char *fields, 
 static void test_writer_refusals(void)
 {
     for (unsigned kind = 0; kind < 100; kind++)
-        if (!plain_is_base(kind))
+        if (!plain_is_base(edition, kind))
             expect_written("22", kind, "", 22, 0);
     expect_written("22", UINT32_MAX, "Dirf|", 22, 0);
     expect_written("22 before 11", 20, "INFPC|", 22, 0);
@@ -1290,20 +1359,20 @@ static void test_writer_lengths(void)
     };
     for (unsigned i = 0; i < sizeof c / sizeof *c; i++) {
         size_t lengths[2] = {c[i].a, c[i].b};
-        plain_written w = plain_write_line(5, contents, 9, lengths, 2, out, 64);
+        plain_written w = plain_write_line(edition, 5, contents, 9, lengths, 2, out, 64);
         is_true(w.number == c[i].number && w.field == c[i].field, "lengths", i, w.number);
         given[w.number]++;
     }
     size_t bar[3] = {3, 1, 3};
-    plain_written w = plain_write_line(43, barred, 7, bar, 3, out, 64);
+    plain_written w = plain_write_line(edition, 43, barred, 7, bar, 3, out, 64);
     is_true(w.number == 14 && w.field == 3, "14 by a bar", w.number, w.field);
     size_t wraps[3] = {3, SIZE_MAX, 3};
-    w = plain_write_line(43, barred, 5, wraps, 3, out, 64);
+    w = plain_write_line(edition, 43, barred, 5, wraps, 3, out, 64);
     is_true(w.number == 23, "a sum that wraps", w.number, w.field);
     size_t none[2] = {0, 0};
-    w = plain_write_line(5, NULL, 0, none, 2, NULL, 0);
+    w = plain_write_line(edition, 5, NULL, 0, none, 2, NULL, 0);
     is_true(w.number == 13 && w.field == 1, "all empty", w.number, w.field);
-    w = plain_write_line(5, NULL, 0, NULL, 0, NULL, 0);
+    w = plain_write_line(edition, 5, NULL, 0, NULL, 0, NULL, 0);
     is_true(w.number == 11, "no lengths", w.number, w.field);
 }
 
@@ -1312,7 +1381,7 @@ static void test_writer_rooms(void)
 {
     for (unsigned kind = 1; kind <= plain_kinds(); kind++) {
         char line[512];
-        if (!plain_is_base(kind))
+        if (!plain_is_base(edition, kind))
             continue;
         good_line(kind, 7, line);
         size_t len = strlen(line) + 2;
@@ -1339,22 +1408,511 @@ static void test_writer(void)
     test_writer_rooms();
 }
 
+/* ---- the two editions ---- */
+
+/* How many bytes settle the edition: up to the sixth bar or the first CR LF, whichever ends first; 0 if there is neither. */
+static size_t settling(const char *bytes, size_t len)
+{
+    size_t bars = 0;
+    for (size_t i = 0; i < len; i++) {
+        bars += bytes[i] == '|';
+        if (bars == 6 || (i > 0 && bytes[i - 1] == '\r' && bytes[i] == '\n'))
+            return i + 1;
+    }
+    return 0;
+}
+
+/* Whatever follows the bytes that settle the edition leaves it as it is, and no byte of it is read. */
+static void expect_edition(const char *what, const char *bytes, size_t len, plain_edition wanted)
+{
+    static const char *const tails[] = {"", "|", "\n", "\r\n", "XJFSFHB|", "|||||XJFSFHB|\r\n", "R6GP3ZA|\r\n",
+        LINE_2022 "\r\n", LINE_2025 "\r\n"};
+    size_t settled = settling(bytes, len);
+    is_true(plain_edition_of(edge_copy(bytes, len), len) == wanted, what, len, wanted);
+    is_true(naive_edition(edge_copy(bytes, len), len) == wanted, "edition by the slow reading", len, wanted);
+    if (settled == 0)
+        return;
+    is_true(plain_edition_of(edge_copy(bytes, settled), SIZE_MAX) == wanted, "no further look", settled, wanted);
+    for (unsigned i = 0; i < sizeof tails / sizeof *tails; i++) {
+        text t = {0};
+        add_bytes(&t, bytes, settled);
+        add(&t, tails[i]);
+        is_true(plain_edition_of(t.bytes, t.len) == wanted, "whatever follows", settled, i);
+        drop(&t);
+    }
+}
+
+#define OLD(what, bytes) expect_edition(what, bytes, sizeof bytes - 1, PLAIN_2022)
+#define NEW(what, bytes) expect_edition(what, bytes, sizeof bytes - 1, PLAIN_2025)
+#define TO_MARK "Dirf|2022|2021|N||"
+
+static void test_edition_of_ends(void)
+{
+    is_true(plain_edition_of(NULL, 0) == PLAIN_2025, "no file", 0, 0);
+    NEW("empty file", "");
+    NEW("empty line", "\r\n");
+    OLD("older", LINE_2022 "\r\n");
+    NEW("2025", LINE_2025 "\r\n");
+    OLD("no line end", LINE_2022);
+    OLD("CR and the end", LINE_2022 "\r");
+    OLD("LF", LINE_2022 "\n");
+    OLD("CR and another byte", LINE_2022 "\rX");
+    OLD("no bar at the end", LINE_2022 "X\r\n");
+    NEW("field 6 without its bar", TO_MARK "XJFSFHB\r\n");
+    NEW("field 6 without its bar, no line end", TO_MARK "XJFSFHB");
+    NEW("CR LF before field 6", TO_MARK "\r\nXJFSFHB|\r\n");
+    NEW("CR LF before the sixth bar", TO_MARK "XJFSFHB\r\n|\r\n");
+    NEW("CR LF in the mark", TO_MARK "XJF\r\nSFHB|\r\n");
+}
+
+#define REFUSED(what, bytes, wanted, number) expect_refused(what, bytes, sizeof bytes - 1, wanted, number)
+
+/* A line 1 refused for its end: an edition is picked all the same, and the answer is the one it always was, by either mark. */
+static void expect_refused(const char *what, const char *bytes, size_t len, plain_edition wanted, uint32_t number)
+{
+    text t = {0};
+    add_bytes(&t, bytes, len);
+    expect_edition(what, bytes, len, wanted);
+    expect(what, &t, number, 1, 0);
+    for (size_t i = 0; i + 7 <= len; i++)
+        if (memcmp(t.bytes + i, "XJFSFHB", 7) == 0)
+            memcpy(t.bytes + i, "R6GP3ZA", 7);
+    is_true(plain_edition_of(t.bytes, t.len) == PLAIN_2025, what, len, number);
+    expect(what, &t, number, 1, 0);
+    drop(&t);
+}
+
+/* A lone CR or LF ends no line 1 here, and is a byte of its field like any other. */
+static void test_edition_of_lone(void)
+{
+    REFUSED("LF in field 2", "Dirf|2022\n|2021|N||XJFSFHB|\r\n", PLAIN_2022, 6);
+    REFUSED("CR in field 2", "Dirf|20\r22|2021|N||XJFSFHB|\r\n", PLAIN_2022, 6);
+    REFUSED("one in each field", "\nDirf|2022\r|20\n21|\rN|\n\r|XJFSFHB|\r\n", PLAIN_2022, 6);
+    REFUSED("LF for every line end", "Dirf|\nRESPO|\nDECPF|||XJFSFHB|\nFIMDirf|\n", PLAIN_2022, 6);
+    REFUSED("CR for every line end", "Dirf|\rRESPO|\rDECPF|||XJFSFHB|\rFIMDirf|\r", PLAIN_2022, 6);
+    REFUSED("the mark in field 7, after an LF", "Dirf|2022|\n||||XJFSFHB|\n", PLAIN_2025, 6);
+    REFUSED("CR last before the mark's first bar", "Dirf|2022|2021|N|\r|XJFSFHB|\r\n", PLAIN_2022, 6);
+    REFUSED("CR last before the mark's own bar", TO_MARK "XJFSFHB\r|\r\n", PLAIN_2025, 6);
+    REFUSED("LF last before the mark's own bar", TO_MARK "XJFSFHB\n|\r\n", PLAIN_2025, 6);
+    REFUSED("CR first in field 6", TO_MARK "\rXJFSFHB|\r\n", PLAIN_2025, 6);
+    REFUSED("LF in the mark", TO_MARK "XJF\nSFHB|\r\n", PLAIN_2025, 6);
+    REFUSED("the mark and CR, no bar", TO_MARK "XJFSFHB\r", PLAIN_2025, 5);
+    REFUSED("the mark, CR and a byte, no bar", TO_MARK "XJFSFHB\rX", PLAIN_2025, 6);
+    REFUSED("CR before the sixth bar, no line end", TO_MARK "XJFSFHB\r|", PLAIN_2025, 6);
+    REFUSED("LF behind the sixth bar", LINE_2022 "\n\r\n", PLAIN_2022, 6);
+    REFUSED("LF CR is no line end", "Dirf|2022\n\r|2021|N||XJFSFHB|", PLAIN_2022, 6);
+    REFUSED("CR CR LF ends line 1 at its second CR", "Dirf|2022\r\r\n|2021|N||XJFSFHB|\r\n", PLAIN_2025, 6);
+    REFUSED("LF CR LF ends line 1 at its CR", "Dirf|2022\n\r\n|2021|N||XJFSFHB|\r\n", PLAIN_2025, 6);
+}
+
+/* CRs and LFs in every place of the older line 1: up to the fifth bar a lone one harms no mark, in field 6 it does, and a
+   CR LF anywhere before the sixth bar leaves line 1 without a field 6. */
+static void test_edition_of_places(void)
+{
+    static const char *const ends[] = {"\r", "\n", "\n\r", "\r\r", "\n\n", "\r\n", "\r\r\n", "\n\r\n", "\r\n\r\n"};
+    size_t mark = strlen(TO_MARK), all = strlen(LINE_2022);
+    for (unsigned e = 0; e < sizeof ends / sizeof *ends; e++)
+        for (size_t at = 0; at <= all; at++) {
+            int lone = strstr(ends[e], "\r\n") == NULL, older = at == all || (lone && at < mark);
+            text t = {0};
+            add_bytes(&t, LINE_2022, at);
+            add(&t, ends[e]);
+            add(&t, LINE_2022 "\r\n" + at);
+            const char *bytes = (const char *)t.bytes;
+            if (strncmp(ends[e], "\r\n", 2) != 0) {
+                expect_refused("lone in every place", bytes, t.len, older ? PLAIN_2022 : PLAIN_2025, 6);
+            } else {
+                /* Line 1 has a right end, and its own fault: no bar last, or too few fields. The whole line 1 has none. */
+                int barred = at > 0 && LINE_2022[at - 1] == '|';
+                expect_edition("CR LF in every place", bytes, t.len, older ? PLAIN_2022 : PLAIN_2025);
+                expect("CR LF in every place", &t, barred && at < all ? 11 : 8, at < all ? 1 : 2, 0);
+            }
+            drop(&t);
+        }
+}
+
+/* The older line 1 with filler first in field f, so that the sixth bar is byte len. */
+static text stretched(unsigned f, size_t len)
+{
+    static const char *const fields[] = {"Dirf|", "2022|", "2021|", "N|", "|", "XJFSFHB|"};
+    text t = {0};
+    for (unsigned i = 1; i <= 6; i++) {
+        for (size_t n = strlen(LINE_2022); i == f && n < len; n++)
+            add(&t, "A");
+        add(&t, fields[i - 1]);
+    }
+    is_true(t.len == len, "the sixth bar", t.len, f);
+    return t;
+}
+
+/* With a right line end the fault is the stretched field's own, or 4 past 1,024 bytes. A stretched mark picks 2025, which has
+   another year. */
+static void test_stretched_ended(unsigned f, size_t len)
+{
+    static const struct { uint32_t number, field; } c[] = {{9, 1}, {14, 2}, {14, 3}, {15, 4}, {14, 5}, {18, 2}};
+    int fits = len <= 1024;
+    text t = stretched(f, len);
+    add(&t, "\r\n");
+    expect_edition("long, CR LF", (const char *)t.bytes, t.len, f < 6 ? PLAIN_2022 : PLAIN_2025);
+    expect("long, CR LF", &t, fits ? c[f - 1].number : 4, 1, fits ? c[f - 1].field : 0);
+    splice(&t, len - 8, len - 8, "\r\n", 2);
+    expect_edition("long, CR LF before field 6", (const char *)t.bytes, t.len, PLAIN_2025);
+    drop(&t);
+}
+
+static void test_stretched_refused(unsigned f, size_t len)
+{
+    plain_edition wanted = f < 6 ? PLAIN_2022 : PLAIN_2025;
+    int fits = len <= 1024;
+    text t = stretched(f, len);
+    expect_refused("long, no line end", (const char *)t.bytes, t.len, wanted, fits ? 5 : 4);
+    expect_refused("long, no sixth bar", (const char *)t.bytes, len - 1, PLAIN_2025, len - 1 <= 1024 ? 5 : 4);
+    add(&t, "\r");
+    expect_refused("long, CR", (const char *)t.bytes, t.len, wanted, fits ? 5 : 4);
+    t.bytes[len] = '\n';
+    expect_refused("long, LF", (const char *)t.bytes, t.len, wanted, fits ? 6 : 4);
+    splice(&t, 0, 0, "\n", 1);
+    expect_refused("long, LF first of all", (const char *)t.bytes, t.len, wanted, 6);
+    drop(&t);
+}
+
+/* No count of bytes ends line 1 here: the sixth bar may be past any. */
+static void test_edition_of_long(void)
+{
+    static const size_t sizes[] = {27, 1000, 1023, 1024, 1025, 1026, 1500, 1999, 2000, 2001, 2002, 2048, 2049, 4097, 65537, 70000};
+    for (unsigned i = 0; i < sizeof sizes / sizeof *sizes; i++)
+        for (unsigned f = 1; f <= 6; f++) {
+            test_stretched_ended(f, sizes[i]);
+            test_stretched_refused(f, sizes[i]);
+        }
+}
+
+/* The check looks no further than to its own fault, wherever the sixth bar is, so a line 1 without an end costs it no time. */
+static void test_edition_costs_nothing(void)
+{
+    static const struct { const char *bytes; uint32_t number, line; } c[] = {
+        {"\n", 6, 1}, {"\rX", 6, 1}, {"Dirf|\n", 6, 1}, {LINE_2022 "\n", 6, 1}, {"\r\n", 8, 1}, {TO_MARK "XJFSFHB\r\n", 8, 1},
+        {LINE_2022 "\r\n\n", 6, 2}, {LINE_2025 "\r\n\n", 6, 2}, {LINE_2022 "\r\n\r\n", 8, 2}, {LINE_2025 "\r\n\r\n", 8, 2}};
+    char longest[1025];
+    for (unsigned i = 0; i < sizeof c / sizeof *c; i++) {
+        plain_answer a = plain_check_room(edge_copy(c[i].bytes, strlen(c[i].bytes)), SIZE_MAX, 9);
+        is_true(equal(a, (plain_answer){c[i].number, c[i].line, 0, c[i].line - 1}), "no look past the fault", i * 100 + a.number, a.line);
+    }
+    memset(longest, 'A', sizeof longest);
+    plain_answer a = plain_check_room(edge_copy(longest, sizeof longest), SIZE_MAX, 9);
+    is_true(equal(a, (plain_answer){4, 1, 0, 0}), "1,025 bytes are enough for 4", a.number, a.line);
+}
+
+/* Files of random parts, with the edition and the answer as the slow reading has them; both editions have to come up. */
+static void test_edition_of_random(unsigned rounds)
+{
+    static const char *const parts[] = {"|", "|", "|", "||", "|||||", "|XJFSFHB|", "|XJFSFHB|", "XJFSFHB", "\r", "\n", "\r\n", "\r",
+        "\n", "Dirf", "2022", "R6GP3ZA", "XJFSFH", "B", "RTDS|"};
+    unsigned long seen[2] = {0};
+    for (unsigned i = 0; i < rounds; i++) {
+        text t = {0};
+        for (unsigned n = below_n(16); n > 0; n--) {
+            add(&t, parts[below_n(sizeof parts / sizeof *parts)]);
+            for (unsigned m = below_n(100) ? 0 : 3 + below_n(4); m > 0; m--)
+                add(&t, many('A', 300));
+        }
+        plain_edition picked = naive_edition(t.bytes, t.len);
+        expect_edition("random parts", (const char *)t.bytes, t.len, picked);
+        run(t.bytes, t.len, 5);
+        seen[picked]++;
+        drop(&t);
+    }
+    is_true(seen[PLAIN_2022] > rounds / 50 && seen[PLAIN_2025] > rounds / 50, "both editions", seen[0], seen[1]);
+}
+
+static void test_edition_of_fields(void)
+{
+    NEW("one field", "Dirf|\r\n");
+    NEW("the mark in field 1", "XJFSFHB|\r\n");
+    NEW("the mark in field 5", "Dirf|2022|2021|N|XJFSFHB|\r\n");
+    NEW("the mark in field 5 of six", "Dirf|2022|2021|N|XJFSFHB||\r\n");
+    NEW("the mark in field 7", TO_MARK "|XJFSFHB|\r\n");
+    OLD("seven fields", LINE_2022 "|\r\n");
+    OLD("two marks", LINE_2022 "R6GP3ZA|\r\n");
+    OLD("the older mark with the years of 2025", "Dirf|2025|2024|N||XJFSFHB|\r\n");
+    NEW("the mark of 2025 with the older years", TO_MARK "R6GP3ZA|\r\n");
+    OLD("another record", "RESPO|||||XJFSFHB|\r\n");
+    OLD("a record left for later", "INFPC|||||XJFSFHB|\r\n");
+    OLD("a record that the older edition lacks", "RTDS|||||XJFSFHB|||||||||\r\n");
+    OLD("an unknown record", "DIRF|||||XJFSFHB|\r\n");
+    OLD("an empty identifier", "|||||XJFSFHB|\r\n");
+    NEW("other case", TO_MARK "xjfsfhb|\r\n");
+    NEW("other case in one letter", TO_MARK "XJFSFHb|\r\n");
+    NEW("a longer mark", TO_MARK "XJFSFHBX|\r\n");
+    NEW("a blank after", TO_MARK "XJFSFHB |\r\n");
+    NEW("a blank before", TO_MARK " XJFSFHB|\r\n");
+    NEW("a byte 0 after", TO_MARK "XJFSFHB\0|\r\n");
+    NEW("a byte 0 in place of a bar", TO_MARK "XJFSFHB\0\r\n");
+    NEW("a shorter mark", TO_MARK "XJFSFH|\r\n");
+    NEW("no mark", TO_MARK "|\r\n");
+    NEW("a neighbour of the mark", TO_MARK "XJFSFHC|\r\n");
+}
+
+/* Line 1 with each year, calendar year and mark, in a file and by the writer: field 6 alone picks the rules of the file. */
+static void test_crossed(void)
+{
+    static const char *const marks[] = {"R6GP3ZA", "XJFSFHB", "xjfsfhb", "R6GP3Za", "XJFSFHBX", "XJFSFH", "R6GP3ZAX", "AAAAAAA", ""};
+    for (unsigned year = 2020; year < 2027; year++)
+        for (unsigned calendar = 2020; calendar < 2027; calendar++)
+            for (unsigned i = 0; i < sizeof marks / sizeof *marks; i++) {
+                int judged_old = strcmp(marks[i], "XJFSFHB") == 0, old = edition == PLAIN_2022;
+                size_t size = strlen(marks[i]);
+                char line[64];
+                uint8_t out[64];
+                sprintf(line, "Dirf|%u|%u|N||%s|", year, calendar, marks[i]);
+                uint32_t mark = size == 0 ? 13 : size != 7 ? 15 : 18;
+                uint32_t field = year != (judged_old ? 2022 : 2025) ? 2
+                    : !(judged_old ? calendar == 2021 || calendar == 2022 : calendar == 2024) ? 3 : i > 1 ? 6 : 0;
+                expect_head("crossed", line, NULL, field == 0 ? 0 : field < 6 ? 18 : mark, field ? 1 : 4, field);
+                field = year != (old ? 2022 : 2025) ? 2
+                    : !(old ? calendar == 2021 || calendar == 2022 : calendar == 2024) ? 3 : i != (unsigned)old ? 6 : 0;
+                plain_written w = write_fields(1, line, out, sizeof out);
+                is_true(w.number == (field == 0 ? 0 : field < 6 ? 18 : mark) && w.field == field, line, w.number, w.field);
+            }
+}
+
+/* RTDS and ESDS in each of the first lines and below a beneficiary; test_path has them in every other place. */
+static void test_lacking(const char *name)
+{
+    int old = edition == PLAIN_2022;
+    char l[512];
+    sprintf(l, "%s|||||{mark}|||||||||\r\n", name);
+    expect_bytes("line 1 with the mark", l, old ? 9 : 12, 1, 1);
+    sprintf(l, "%s|||||{mark}|\r\n", name);
+    expect_bytes("line 1 with six fields", l, old ? 9 : 12, 1, 1);
+    sprintf(l, "%s||||||||||||||\r\n", name);
+    expect_bytes("line 1 without a mark", l, 12, 1, 1);
+    sprintf(l, "%s|\r\n", name);
+    expect_bytes("line 1 of one field", l, 12, 1, 1);
+    sprintf(l, DIRF_LINE "\r\n%s|\r\n", name);
+    expect_bytes("line 2", l, old ? 9 : 12, 2, 1);
+    sprintf(l, DIRF_LINE "\r\n" RESPO_LINE "\r\n%s|\r\n", name);
+    expect_bytes("line 3", l, old ? 9 : 12, 3, 1);
+    for (unsigned d = DECPF; d <= DECPJ; d++) {
+        expect_after("line 4", d, name, 8, 4, 0);
+        sprintf(l, "%s|", name);
+        expect_after("line 4", d, l, old ? 9 : 12, 4, 1);
+        sprintf(l, BPF "~%s|", name);
+        expect_after("9 before 11", d, l, old ? 9 : 11, 6, old);
+        sprintf(l, BPF "~%s||||||||||||||~FIMDirf|", name);
+        expect_after("below a beneficiary", d, l, old ? 9 : 0, old ? 6 : 7, old);
+        sprintf(l, BPF "~%s||||||||||||||~%s||||||||||||||", name, name);
+        expect_after("twice", d, l, old ? 9 : 21, old ? 6 : 7, 1);
+        sprintf(l, BPF "~%s|0|||||||||||||", name);
+        expect_after("9 before 16", d, l, old ? 9 : 16, 6, old ? 1 : 2);
+        sprintf(l, BPF "~FIMDirf|~%s|", name);
+        expect_after("2 before 9", d, l, 2, 7, 0);
+        sprintf(l, BPF "~%sX|", name);
+        expect_after("9 longer", d, l, 9, 6, 1);
+    }
+}
+
+/* 10 in each of the first lines, whatever the mark; test_path has the other places. */
+static void test_left_for_later(void)
+{
+    unsigned left = 0;
+    for (unsigned kind = 1; kind <= plain_kinds(); kind++) {
+        const char *name = plain_name(kind);
+        char l[256];
+        if (plain_is_base(edition, kind) || lacking(name))
+            continue;
+        left++;
+        sprintf(l, "%s|||||{mark}|\r\n", name);
+        expect_bytes("left, line 1", l, 10, 1, 1);
+        sprintf(l, DIRF_LINE "\r\n%s|\r\n", name);
+        expect_bytes("left, line 2", l, 10, 2, 1);
+        sprintf(l, DIRF_LINE "\r\n" RESPO_LINE "\r\n%s|\r\n", name);
+        expect_bytes("left, line 3", l, 10, 3, 1);
+    }
+    is_true(left == 17, "17 left for later", left, 0);
+}
+
+/* A record, and below a beneficiary every value record that 000's list has there; 2025 has its two beside RTDP and ESDP. */
+static void add_whole(text *t, unsigned d, const char *name, char *seen)
+{
+    char line[512];
+    good_line(named(name), 1, line);
+    add_line(t, line);
+    seen[named(name)] = 1;
+    for (unsigned kind = 1; kind <= plain_kinds(); kind++) {
+        int newer = edition == PLAIN_2025 && source_holds("RTDS ESDS", plain_name(kind));
+        const char *like = !newer ? plain_name(kind) : kind == named("RTDS") ? "RTDP" : "ESDP";
+        if (name[0] == 'B' && source_below(plain_name(d), name, like)) {
+            good_line(kind, 1, line);
+            add_line(t, line);
+            seen[kind] = 1;
+        }
+    }
+}
+
+/* One file with every record of the edition that the declarant may have. */
+static void test_whole(unsigned d)
+{
+    static const char *const paths[] = {"IDREC BPFDEC BPJDEC RRA IDREC BPFRRA SCP BPFSCP BPJSCP FIMDirf",
+        "IDREC BPFDEC BPJDEC FCI IDREC BPFFCI BPJFCI PROC IDREC BPFPROC BPJPROC RRA IDREC BPFRRA SCP BPFSCP BPJSCP FIMDirf"};
+    char name[16], seen[100] = {0};
+    int used;
+    unsigned kinds = 3, want = (d == DECPF ? 34 : 55) - (edition == PLAIN_2022 ? 2 : 0);
+    text t = head(d, 1);
+    for (const char *s = paths[d - DECPF]; sscanf(s, "%15s%n", name, &used) == 1; s += used)
+        add_whole(&t, d, name, seen);
+    for (unsigned kind = 1; kind <= plain_kinds(); kind++) {
+        kinds += seen[kind] != 0;
+        is_true(!seen[kind] || plain_is_base(edition, kind), plain_name(kind), d, kind);
+    }
+    is_true(kinds == want, "kinds of the declarant", kinds, want);
+    expect("every record", &t, 0, (uint32_t)count_lf(t.bytes, t.len), 0);
+    drop(&t);
+}
+
+/* The writer in the edition that is set: 22 for what that one lacks, before 11 and 23; Dirf in the words of 2025 is 18 by
+   the older one, at its year. */
+static plain_written test_written_kind(unsigned kind, const char *line, uint8_t *out, size_t room)
+{
+    int base = plain_is_base(edition, kind), crossed = kind == 1 && edition == PLAIN_2022;
+    size_t lengths[15] = {0};
+    plain_written w = plain_write_line(edition, kind, NULL, 0, NULL, 0, NULL, 0);
+    is_true(w.number == (base ? 11 : 22), "22 before 11", kind, w.number);
+    w = plain_write_line(edition, kind, (const uint8_t *)"A", 1, lengths, plain_fields(PLAIN_2025, kind), NULL, 0);
+    is_true(w.number == (base ? 23 : 22), "22 before 23", kind, w.number);
+    w = write_fields(kind, line, out, room);
+    is_true(w.number == (!base ? 22 : crossed ? 18 : 0), "written by each edition", kind, w.number);
+    is_true(w.field == (crossed ? 2 : 0), "field named by each edition", kind, w.field);
+    is_true(w.count == (!base || crossed ? 0 : strlen(line) + 2), "count by each edition", kind, w.count);
+    return w;
+}
+
+/* The same contents to both editions; a line that both write is the same line. */
+static void test_written_kinds(void)
+{
+    for (unsigned kind = 0; kind <= plain_kinds() + 1; kind++) {
+        char line[512];
+        uint8_t newer[512], older[512];
+        edition = PLAIN_2025;
+        good_line(kind, 7, line);
+        plain_written w = test_written_kind(kind, line, newer, sizeof newer);
+        edition = PLAIN_2022;
+        plain_written v = test_written_kind(kind, line, older, sizeof older);
+        if (w.count > 0 && v.count > 0)
+            is_true(memcmp(newer, older, w.count) == 0 && w.count == v.count, "the same line", kind, 0);
+    }
+}
+
+/* The row that document 000 prints, and for 2025 what document 01 puts in its place. */
+static source_line printed_row(const char *name, unsigned f)
+{
+    static const char *const own[] = {[2] = "2025", [3] = "2024", [6] = "R6GP3ZA"};
+    if (edition == PLAIN_2025 && source_holds("RTDS ESDS", name))
+        name = "RTDP";
+    source_line r = source_row(name, f);
+    if (edition == PLAIN_2025 && strcmp(name, "Dirf") == 0 && f < 7 && own[f] != NULL)
+        strcpy(r.values, own[f]);
+    return r;
+}
+
+static void test_rows_printed(void)
+{
+    unsigned rows = 0;
+    for (unsigned kind = 1; kind <= plain_kinds(); kind++)
+        for (unsigned f = 1; f <= 20; f++) {
+            const char *name = plain_name(kind);
+            plain_row r = plain_field_row(edition, kind, f);
+            source_line p = printed_row(name, f);
+            const char *values = f == 1 && p.format ? name : p.values;
+            rows += p.format != 0;
+            is_true(r.format == p.format && r.size == p.size && r.fixed == p.fixed && r.obligatory == p.obligatory, name, kind, f);
+            is_true(strcmp(r.values ? r.values : "", values) == 0, "values printed", kind, f);
+            is_true(r.amount == (p.format == 'N' && !p.fixed && p.size == 13), "amount", kind, f);
+            is_true(r.months == (strcmp(name, "QTMESES") == 0 && f > 1 && f < 14), "months", kind, f);
+            is_true(r.ddd == (kind == 2 && f == 4) && r.telephone == (kind == 2 && (f == 5 || f == 7)), "DDD", kind, f);
+            is_true(r.cpf_or_cnpj == (source_holds("PROC RRA", name) && f == 5), "CPF or CNPJ", kind, f);
+        }
+    is_true(rows == (edition == PLAIN_2025 ? 561 : 533), "rows printed", rows, 0);
+}
+
+/* Every pair under each declarant as 000's lists print it; 2025 has two records more, below BPFDEC and BPFPROC. */
+static void test_pairs_printed(void)
+{
+    unsigned pairs = 0;
+    for (unsigned d = DECPF; d <= DECPJ; d++)
+        for (unsigned parent = 0; parent <= plain_kinds() + 1; parent++)
+            for (unsigned child = 0; child <= plain_kinds() + 1; child++) {
+                const char *p = plain_name(parent), *c = plain_name(child);
+                int want = p && c && source_below(plain_name(d), p, c);
+                if (edition == PLAIN_2025 && p && c && source_holds("RTDS ESDS", c))
+                    want = strcmp(p, "BPFDEC") == 0 || (d == DECPJ && strcmp(p, "BPFPROC") == 0);
+                pairs += (unsigned)want;
+                is_true(plain_below(edition, d, parent, child) == want, "pair printed", d * 100 + parent, child);
+            }
+    is_true(pairs == (edition == PLAIN_2025 ? 132 : 126), "pairs printed", pairs, 0);
+}
+
+/* Whether two rows have the same values; every other entry has to be the same. */
+static int same_values(unsigned kind, unsigned f)
+{
+    plain_row a = plain_field_row(PLAIN_2025, kind, f), b = plain_field_row(PLAIN_2022, kind, f);
+    is_true(a.format == b.format && a.fixed == b.fixed && a.size == b.size && a.obligatory == b.obligatory
+            && a.amount == b.amount && a.months == b.months && a.ddd == b.ddd && a.telephone == b.telephone
+            && a.cpf_or_cnpj == b.cpf_or_cnpj, "the same row", kind, f);
+    return strcmp(a.values ? a.values : "", b.values ? b.values : "") == 0;
+}
+
+/* The editions beside each other: all but three values, two records and their six pairs is the same. */
+static void test_editions_differ(void)
+{
+    unsigned records = 0, values = 0, pairs = 0;
+    for (unsigned a = 1; a <= plain_kinds(); a++) {
+        records += plain_is_base(PLAIN_2025, a) != plain_is_base(PLAIN_2022, a);
+        for (unsigned f = 1; f <= plain_fields(PLAIN_2022, a); f++)
+            values += !same_values(a, f);
+        for (unsigned b = 1; b <= plain_kinds(); b++)
+            for (unsigned d = DECPF; d <= DECPJ; d++)
+                pairs += plain_below(PLAIN_2025, d, a, b) != plain_below(PLAIN_2022, d, a, b);
+    }
+    is_true(records == 2 && values == 3 && pairs == 6, "differences", records * 100 + values, pairs);
+}
+
+static void test_editions(void)
+{
+    test_crossed();
+    test_lacking("RTDS");
+    test_lacking("ESDS");
+    test_left_for_later();
+    test_whole(DECPF);
+    test_whole(DECPJ);
+    test_rows_printed();
+    test_pairs_printed();
+}
+
 /* ---- helpers out of range ---- */
 
 static void test_helpers(void)
 {
     is_true(plain_name(0) == NULL && plain_name(74) == NULL, "no name", 0, 0);
-    is_true(!plain_is_base(0) && !plain_is_base(74) && !plain_is_base(~0u), "no base", 0, 0);
-    is_true(plain_fields(0) == 0 && plain_fields(20) == 0 && plain_fields(99) == 0, "none", 0, 0);
-    is_true(plain_field_row(1, 0).size == 0 && plain_field_row(1, 7).size == 0, "no row", 0, 0);
-    is_true(plain_field_row(20, 1).size == 0 && plain_field_row(~0u, ~0u).size == 0, "none", 0, 0);
-    is_true(!plain_below(3, ~0u, 5) && !plain_below(3, 3, ~0u) && !plain_below(~0u, 3, 5),
+    is_true(!plain_is_base(edition, 0) && !plain_is_base(edition, 74) && !plain_is_base(edition, ~0u), "no base", 0, 0);
+    is_true(plain_fields(edition, 0) == 0 && plain_fields(edition, 20) == 0 && plain_fields(edition, 99) == 0, "none", 0, 0);
+    is_true(plain_field_row(edition, 1, 0).size == 0 && plain_field_row(edition, 1, 7).size == 0, "no row", 0, 0);
+    is_true(plain_field_row(edition, 20, 1).size == 0 && plain_field_row(edition, ~0u, ~0u).size == 0, "none", 0, 0);
+    is_true(!plain_below(edition, 3, ~0u, 5) && !plain_below(edition, 3, 3, ~0u) && !plain_below(edition, ~0u, 3, 5),
             "below nothing", 0, 0);
     is_true(strcmp(plain_name(1), "Dirf") == 0 && strcmp(plain_name(73), "FIMDirf") == 0
             && strcmp(plain_name(7), "RTRT") == 0 && strcmp(plain_name(5), "IDREC") == 0,
             "names", 0, 0);
-    is_true(plain_below(4, 6, named("RIMOG")) && !plain_below(3, 6, named("RIMOG")), "RIMOG", 0, 0);
-    is_true(!plain_below(4, 6, named("RTPA")) && plain_below(4, 52, named("RTPA")), "RTPA", 0, 0);
+    const char *const two[] = {"RTDS", "ESDS"};
+    for (unsigned i = 0; i < 2; i++) {
+        unsigned kind = named(two[i]), old = edition == PLAIN_2022;
+        is_true(kind == 10 + 7 * i, "one number in both editions", kind, i);
+        is_true(plain_is_base(edition, kind) == !old && plain_fields(edition, kind) == (old ? 0 : 14), two[i], old, 0);
+        is_true((plain_field_row(edition, kind, 1).size == 0) == old, "rows of it", old, i);
+        is_true((plain_below(edition, 3, 6, kind) == 0) == old && (plain_below(edition, 4, 52, kind) == 0) == old, two[i], old, 1);
+    }
+    is_true(plain_below(edition, 4, 6, named("RIMOG")) && !plain_below(edition, 3, 6, named("RIMOG")), "RIMOG", 0, 0);
+    is_true(!plain_below(edition, 4, 6, named("RTPA")) && plain_below(edition, 4, 52, named("RTPA")), "RTPA", 0, 0);
 }
 
 /* ---- random files, good ones and changed ones ---- */
@@ -1365,12 +1923,13 @@ static int scp_to_come;                 /* the declarant's line is made before i
 /* A good line with optional fields often empty and sizes often full. */
 static void random_line(text *t, unsigned kind, int changed)
 {
-    static const char *const odd[] = {"", "0", "00", "1", "2", "9", "S", "N", "X", "01", "2025",
+    static const char *const odd[] = {"", "0", "00", "1", "2", "9", "S", "N", "X", "01", "2025", "2022", "2024", "2021",
+        "R6GP3ZA", "XJFSFHB",
         "20240229", "20230229", "11144477735", "99999999999999", "A|", "A", "000", "123456789",
         "12345678", "1234567", "\xC3\x87", "2,3", ",", "S,N"};
-    for (unsigned f = 1; f <= plain_fields(kind); f++) {
+    for (unsigned f = 1; f <= plain_fields(edition, kind); f++) {
         char field[160];
-        plain_row r = plain_field_row(kind, f);
+        plain_row r = plain_field_row(edition, kind, f);
         good_field(kind, f, serial, field);
         if (people_flag(kind, f, scp_to_come) != NULL)
             strcpy(field, people_flag(kind, f, scp_to_come));
@@ -1395,7 +1954,7 @@ static void random_values(text *t, unsigned d, unsigned beneficiary, int changed
     unsigned from = below_n(73), n = below_n(4) ? below_n(8) : 73;
     for (unsigned i = 0; i < 73 && n > 0; i++) {
         unsigned kind = 1 + (from + i * 5) % 73;
-        if (plain_below(d, beneficiary, kind) && below_n(3)) {
+        if (plain_below(edition, d, beneficiary, kind) && below_n(3)) {
             random_line(t, kind, changed);
             n--;
         }
@@ -1459,16 +2018,6 @@ static void random_span(const text *t, size_t *start, size_t *end)
     *end = at < t->len ? at + 1 : at;
 }
 
-static void splice(text *t, size_t start, size_t end, const void *with, size_t len)
-{
-    text out = {0};
-    add_bytes(&out, t->bytes, start);
-    add_bytes(&out, with, len);
-    add_bytes(&out, t->bytes + end, t->len - end);
-    drop(t);
-    *t = out;
-}
-
 /* One change of bytes or of whole lines. */
 static void change(text *t)
 {
@@ -1515,6 +2064,36 @@ static void test_random_files(unsigned rounds)
     }
 }
 
+/* The first line of a file with one of the two records, or 0. */
+static uint32_t first_newer(const text *t)
+{
+    uint32_t line = 1;
+    for (size_t i = 0; i + 5 < t->len; i++) {
+        int begins = i == 0 || t->bytes[i - 1] == '\n';
+        if (begins && (memcmp(t->bytes + i, "RTDS|", 5) == 0 || memcmp(t->bytes + i, "ESDS|", 5) == 0))
+            return line;
+        line += t->bytes[i] == '\n';
+    }
+    return 0;
+}
+
+/* A right file with the other edition's line 1 stays right, but for the two records that the older one lacks. */
+static void test_exchanged(unsigned rounds)
+{
+    const char *other = edition == PLAIN_2025 ? LINE_2022 : LINE_2025;
+    for (unsigned i = 0; i < rounds; i++) {
+        text t = random_file(0);
+        size_t end = 0;
+        while (t.bytes[end] != '\r')
+            end++;
+        splice(&t, 0, end, other, strlen(other));
+        uint32_t newer = first_newer(&t), lines = (uint32_t)count_lf(t.bytes, t.len);
+        is_true(edition == PLAIN_2025 || newer == 0, "none in the older edition", newer, 0);
+        expect("another line 1", &t, newer ? 9 : 0, newer ? newer : lines, newer != 0);
+        drop(&t);
+    }
+}
+
 static void test_cuts(unsigned rounds)
 {
     for (unsigned i = 0; i < rounds; i++) {
@@ -1553,7 +2132,7 @@ static void test_random_bytes(unsigned rounds)
 static void test_random_writes(unsigned rounds)
 {
     for (unsigned i = 0; i < rounds; i++) {
-        unsigned kind = 1 + below_n(73), n = below_n(8) ? plain_fields(kind) : below_n(16);
+        unsigned kind = 1 + below_n(73), n = below_n(8) ? plain_fields(edition, kind) : below_n(16);
         uint8_t contents[64], out[100];
         size_t lengths[16], sum = 0;
         for (unsigned f = 0; f < n; f++)
@@ -1563,11 +2142,11 @@ static void test_random_writes(unsigned rounds)
         for (size_t j = 0; j < sum; j++)
             contents[j] = (uint8_t)"|\r\n0129SNA"[below_n(10)];
         uint8_t *c = exact_copy(contents, sum);
-        plain_written w = plain_write_line(kind, c, sum, lengths, n, out, below_n(100));
+        plain_written w = plain_write_line(edition, kind, c, sum, lengths, n, out, below_n(100));
         size_t at = 0;
-        uint32_t number = plain_is_base(kind) ? n == plain_fields(kind) ? 0 : 11 : 22, field = 0;
+        uint32_t number = plain_is_base(edition, kind) ? n == plain_fields(edition, kind) ? 0 : 11 : 22, field = 0;
         for (unsigned f = 1; number == 0 && f <= n; at += lengths[f++ - 1])
-            if ((number = naive_field(kind, f, c + at, lengths[f - 1])) != 0)
+            if ((number = naive_field(edition, kind, f, c + at, lengths[f - 1])) != 0)
                 field = f;
         is_true(number == 0 || (w.number == number && w.field == field && w.count == 0),
                 "random write", w.number, number);
@@ -1584,11 +2163,9 @@ static void test_numbers_seen(void)
     }
 }
 
-int main(int argc, char **argv)
+/* All that depends on the edition, in the one that is set. */
+static void test_one_edition(unsigned rounds)
 {
-    unsigned rounds = argc > 1 ? (unsigned)atoi(argv[1]) : 20000;
-    if (argc > 2)
-        rng ^= (uint64_t)atoll(argv[2]) * 2654435761u;
     test_makers();
     test_spoiled();
     test_marked();
@@ -1607,16 +2184,38 @@ int main(int argc, char **argv)
     test_parents();
     test_keys();
     test_every_row();
+    test_writer();
+    test_editions();
+    test_helpers();
+    test_random_files(rounds);
+    test_exchanged(rounds / 10 + 10);
+    test_cuts(rounds / 1000 + 2);
+    test_random_bytes(rounds);
+    test_random_writes(rounds * 5);
+}
+
+int main(int argc, char **argv)
+{
+    unsigned rounds = argc > 1 ? (unsigned)atoi(argv[1]) : 20000;
+    if (argc > 2)
+        rng ^= (uint64_t)atoll(argv[2]) * 2654435761u;
+    edition = PLAIN_2025;
+    test_one_edition(rounds);
+    edition = PLAIN_2022;
+    test_one_edition(rounds);
+    test_edition_of_ends();
+    test_edition_of_fields();
+    test_edition_of_lone();
+    test_edition_of_places();
+    test_edition_of_long();
+    test_edition_costs_nothing();
+    test_edition_of_random(rounds + 500);
+    test_editions_differ();
+    test_written_kinds();
     test_dates();
     test_number(plain_read_amount, plain_write_amount, 9999999999999u, 13);
     test_number(plain_read_months, plain_write_months, 9999u, 4);
     test_field_reader();
-    test_writer();
-    test_helpers();
-    test_random_files(rounds);
-    test_cuts(rounds / 1000 + 2);
-    test_random_bytes(rounds);
-    test_random_writes(rounds * 5);
     test_numbers_seen();
     printf("tests: %lu cases, %lu wrong\n", cases, wrong);
     return wrong != 0;
