@@ -13,4 +13,4 @@ ends-at-spec =
     (λ c. rw (ne-eqb _ _ (c .if1 .taken)))
     (λ c. omega arith)
     (λ c. omega arith)
-    (λ c. rw (eq-eqb _ _ (not-ne (c .before .if1 .left)))))
+    (λ c. rw (eq-eqb _ _ (c .before .if1 .left))))

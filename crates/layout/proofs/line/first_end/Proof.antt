@@ -3,10 +3,11 @@ use Prim.Native.Nat.{ℕ, suc, _+_, _-_, _≤_, _<_}
 use mathlib.Core.Path.{_≡_, sym, ap, _∙_}
 use mathlib.Core.Bool.{true, false, _&&_}
 use native.Mathlib.Nat.{add-zero, zero-add}
+use native.Mathlib.Numerals.{add-one}
 use native.Mathlib.Omega.{arith}
 use lib.Dec.{eqb}
 use lib.ListN.{length, getD, drop, length-drop}
-use lib.Seq.{getD-drop, drop-drop}
+use lib.Seq.{getD-drop, drop-cons}
 use Rattle.dirf.specs.Bytes.{Text}
 use Rattle.dirf.specs.Limits.{CR, LF}
 use Rattle.dirf.specs.Editions.{line1}
@@ -33,8 +34,11 @@ module _ (s : Text) (i : ℕ) (more : 1 < length s - i) where
   ends : (eqb (getD s i 0) CR && eqb (getD s (i + 1) 0) LF) ≡ true → length (line1 rest) ≡ 0
   ends e = ap length (line1-ends rest long (same-bytes ∙ e))
 
+  next : drop 1 rest ≡ drop (i + 1) s
+  next = rw (add-one i, drop-cons s i 0 (omega (arith, more)))
+
   goes : (eqb (getD s i 0) CR && eqb (getD s (i + 1) 0) LF) ≡ false → length (line1 rest) ≡ suc (length (line1 (drop (i + 1) s)))
-  goes e = line1-goes rest long (same-bytes ∙ e) ∙ ap (λ t. suc (length (line1 t))) (drop-drop 1 i s)
+  goes e = line1-goes rest long (same-bytes ∙ e) ∙ ap (λ t. suc (length (line1 t))) next
 
 pub first-end-spec : {M : Type 1} → statement M
 first-end-spec =
