@@ -1,6 +1,6 @@
 pub mod Table
 pub mod Reading
 pub mod Held
-pub mod Edition2025
+pub mod Editions
 pub mod Written
 pub mod Determined

@@ -8,9 +8,8 @@ use lib.Seq.{take-at, getD-append-add, getD-drop}
 use denote.Ref.{now}
 use Rattle.dirf.specs.Bytes.{Text}
 use Rattle.dirf.specs.Limits.{numbersAnEntry}
-use Rattle.dirf.specs.Edition.{edition2025}
-use Rattle.dirf.specs.Check.{numbersOf, Verdict, verdict}
-use Rattle.dirf.proofs.Demands.{demands2025}
+use Rattle.dirf.specs.Check.{numbersOf, Verdict, answerTo}
+use Rattle.dirf.proofs.files.Files.{files}
 use Rattle.checker.specs.Answers.{answerOf, withEntries, tableAfter}
 use Rattle.checker.specs.Left.{Left}
 use Rattle.checker.proofs.Table.{length-numbers, with-length}
@@ -25,12 +24,12 @@ past front before i h =
     (getD-append-add front (drop (length front) before) j 0 ∙ getD-drop (length front) before j 0)
 
 left : (file : Text) (before : List ℕ)
-    → let v = verdict edition2025 file (length before / numbersAnEntry) in Left file before (tableAfter v before) (answerOf v)
+    → let v = answerTo file (length before / numbersAnEntry) in Left file before (tableAfter v before) (answerOf v)
 unfolding answerOf withEntries tableAfter
 left file before =
     let room : ℕ = length before / numbersAnEntry in
-    let v : Verdict = verdict edition2025 file room in
-    let count = demands2025 .counts file room in
+    let v : Verdict = answerTo file room in
+    let count = files .counts file room in
     let long : length (numbersOf (v .table)) ≡ numbersAnEntry * length (v .table) = length-numbers (v .table) in
     record {
       entries = v .table;
@@ -40,8 +39,8 @@ left file before =
       refused = count .when-refused;
       untouched = λ i h. past (numbersOf (v .table)) before i (omega (arith, long));
       same-length = with-length before (v .table) (omega (arith, count .fits));
-      whose = demands2025 .whose file room;
-      pointed = demands2025 .entries file room;
+      whose = files .whose file room;
+      pointed = files .entries file room;
     }
 
 pub check-left : (κs : _) (a : _) (x : _) (s : _) → check.Post κs a x s → Left (now (a .0)) (now (a .1 .0)) (now (s .1 .0)) x

@@ -3,6 +3,7 @@ mod lines;
 mod state;
 mod turn;
 
+use layout::Edition;
 use layout::HOLDERS;
 use layout::KINDS;
 use layout::NAME_BYTES;
@@ -15,9 +16,10 @@ ghost use lib.ListN.{length};
 ghost use lib.Seq.{sets};
 ghost use Rattle.dirf.specs.Limits.{linesLimit, numbersAnEntry};
 ghost use Rattle.dirf.specs.Kinds.{DECPF};
-ghost use Rattle.dirf.specs.Edition.{edition2025};
-ghost use Rattle.dirf.specs.Check.{entryNumbers, verdict};
+ghost use Rattle.dirf.specs.Editions.{editionOf};
+ghost use Rattle.dirf.specs.Check.{entryNumbers, answerTo};
 ghost use Rattle.layout.specs.Tables.{nameTable};
+ghost use Rattle.layout.specs.Editions.{editionSaid};
 ghost use Rattle.checker.specs.Lines.{thirdKind};
 ghost use Rattle.checker.specs.Answers.{answerOf, tableAfter, entryOfCode, putEntry, Tabled, Judged, JudgedAll};
 
@@ -117,47 +119,60 @@ fn walk(
 
 // A file whose line 3 is a DECPF, and any other. Each makes its own tables: of two calls the compiler keeps one function, with its own
 // stack.
-fn walk_pf(names: &[u8; NAME_BYTES], file: &[u8], room: usize, table: &mut [u32]) -> Answer
-    requires { ⌜ (now names ≡ nameTable edition2025) × (thirdKind (now names) (now file) ≡ DECPF) ⌝ }
-    ensures { λ r. ⌜ Judged edition2025 (now (file .entry)) room (now (table .entry)) (now (table .exit)) r ⌝ }
+fn walk_pf(
+    e: Edition,
+    names: &[u8; NAME_BYTES],
+    file: &[u8],
+    room: usize,
+    table: &mut [u32],
+) -> Answer
+    requires { ⌜ (now names ≡ nameTable (editionSaid e)) × (thirdKind (now names) (now file) ≡ DECPF) ⌝ }
+    ensures { λ r. ⌜ Judged (editionSaid e) (now (file .entry)) room (now (table .entry)) (now (table .exit)) r ⌝ }
 {
-    let rows = layout::row_table();
-    let below = layout::pf_table();
+    let rows = layout::row_table(e);
+    let below = layout::pf_table(e);
     walk(names, &rows, &below, file, room, table)
 }
 
-fn walk_pj(names: &[u8; NAME_BYTES], file: &[u8], room: usize, table: &mut [u32]) -> Answer
-    requires { ⌜ (now names ≡ nameTable edition2025) × (thirdKind (now names) (now file) ≡ DECPF → ⊥) ⌝ }
-    ensures { λ r. ⌜ Judged edition2025 (now (file .entry)) room (now (table .entry)) (now (table .exit)) r ⌝ }
+fn walk_pj(
+    e: Edition,
+    names: &[u8; NAME_BYTES],
+    file: &[u8],
+    room: usize,
+    table: &mut [u32],
+) -> Answer
+    requires { ⌜ (now names ≡ nameTable (editionSaid e)) × (thirdKind (now names) (now file) ≡ DECPF → ⊥) ⌝ }
+    ensures { λ r. ⌜ Judged (editionSaid e) (now (file .entry)) room (now (table .entry)) (now (table .exit)) r ⌝ }
 {
-    let rows = layout::row_table();
-    let below = layout::pj_table();
+    let rows = layout::row_table(e);
+    let below = layout::pj_table(e);
     walk(names, &rows, &below, file, room, table)
 }
 
-// With the tables of 2025, and that of the declarant alone of the two.
+// With the tables of the file's own edition, and that of the declarant alone of the two.
 fn judged(file: &[u8], room: usize, table: &mut [u32]) -> Answer
-    ensures { λ r. ⌜ Judged edition2025 (now (file .entry)) room (now (table .entry)) (now (table .exit)) r ⌝ }
+    ensures { λ r. ⌜ Judged (editionOf (now (file .entry))) (now (file .entry)) room (now (table .entry)) (now (table .exit)) r ⌝ }
 {
-    let names = layout::name_table();
+    let e = layout::edition_of(file);
+    let names = layout::name_table(e);
     if third_kind(&names, file) == 3 {
-        return walk_pf(&names, file, room, table);
+        return walk_pf(e, &names, file, room, table);
     }
-    walk_pj(&names, file, room, table)
+    walk_pj(e, &names, file, room, table)
 }
 
 // The check: acceptance with a record table, or the first breach with the entries before it.
 pub fn check(file: &[u8], table: &mut [u32]) -> Answer
-    ensures answer { λ r. ⌜ r ≡ answerOf (verdict edition2025 (now (file .entry)) (length (now (table .entry)) / numbersAnEntry)) ⌝ }
+    ensures answer { λ r. ⌜ r ≡ answerOf (answerTo (now (file .entry)) (length (now (table .entry)) / numbersAnEntry)) ⌝ }
     ensures entries { λ r. ⌜ now (table .exit)
-        ≡ tableAfter (verdict edition2025 (now (file .entry)) (length (now (table .entry)) / numbersAnEntry)) (now (table .entry)) ⌝ }
+        ≡ tableAfter (answerTo (now (file .entry)) (length (now (table .entry)) / numbersAnEntry)) (now (table .entry)) ⌝ }
 {
     judged(file, table.len() / NUMBERS_AN_ENTRY, table)
 }
 
 // The check with a room in entries and no table.
 pub fn check_room(file: &[u8], room: usize) -> Answer
-    ensures { λ r. ⌜ r ≡ answerOf (verdict edition2025 (now (file .entry)) room) ⌝ }
+    ensures { λ r. ⌜ r ≡ answerOf (answerTo (now (file .entry)) room) ⌝ }
 {
     let mut table = [0u32; NUMBERS_AN_ENTRY];
     judged(file, room, &mut table[0..0])

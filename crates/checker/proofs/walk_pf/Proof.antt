@@ -1,19 +1,20 @@
 -- Line 3 is a DECPF.
 use mathlib.Core.Path.{sym, ap, _∙_}
 use borrow.Author.Needs.{needs}
-use Rattle.dirf.specs.Edition.{edition2025}
 use Rattle.layout.specs.Tables.{belowTable}
+use Rattle.layout.specs.Editions.{editionSays, editionSaid}
 use Rattle.checker.specs.Answers.{SayAll}
-use Rattle.checker.proofs.Edition2025.{say2025}
+use Rattle.checker.proofs.Editions.{say-all}
 use Rattle.checker.proofs.Table.{judged-length}
 use Rattle.checker.proofs.walk_pf.Statement.{statement}
 use Rattle.checker.proofs.walk_pf.Tie as tie
 
 all : (c : tie.After-pf-table) → let a = c .before .before .before .before .args in
-    SayAll edition2025 (a .names .now) (c .before .row-table .result) (c .pf-table .result) (a .file .now)
+    SayAll (editionSaid (a .e)) (a .names .now) (c .before .row-table .result) (c .pf-table .result) (a .file .now)
 all c =
-    let p = c .before .before .before .before .pre in
-    say2025 _ (p .0) (c .before .row-table .ensures) (c .pf-table .ensures ∙ ap (belowTable edition2025) (sym (p .1)))
+    let s = c .before .before .before .before in
+    let p = s .pre in
+    say-all (editionSays (s .args .e)) _ (p .0) (c .before .row-table .ensures) (c .pf-table .ensures ∙ ap (belowTable _) (sym (p .1)))
 
 pub walk-pf-spec : {M : Type 1} → statement M
 walk-pf-spec =
@@ -21,6 +22,6 @@ walk-pf-spec =
     (tie.spec
     (λ c κs. search needs)
     (λ c κs. search needs)
-    (λ c κs. record { edition = edition2025; all = all (c .before .before .before) })
-    (λ c. let w = c .before .before in judged-length (w .walk .ensures edition2025 (all (w .before .before .before .before))))
-    (λ c. let w = c .before .before in w .walk .ensures edition2025 (all (w .before .before .before .before))))
+    (λ c κs. record { edition = _; all = all (c .before .before .before) })
+    (λ c. let w = c .before .before in judged-length (w .walk .ensures _ (all (w .before .before .before .before))))
+    (λ c. let w = c .before .before in w .walk .ensures _ (all (w .before .before .before .before))))
