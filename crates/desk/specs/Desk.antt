@@ -3,8 +3,7 @@ use lib.Dec.{ltb}
 use lib.ListN.{length}
 use Rattle.dirf.specs.Bytes.{if_then_else_, Text}
 use Rattle.dirf.specs.Limits.{deskBytes, deskEntries}
-use Rattle.dirf.specs.Edition.{edition2025}
-use Rattle.dirf.specs.Check.{verdict}
+use Rattle.dirf.specs.Check.{answerTo}
 use Rattle.checker.specs.Answers.{answerOf}
 use Rattle.checker.specs.declared.Answer.{Answer}
 
@@ -12,4 +11,4 @@ use Rattle.checker.specs.declared.Answer.{Answer}
 unfoldable pub deskAnswer : Text → Answer
 deskAnswer file =
     if ltb deskBytes (length file) then record { number = 25; line = 0; field = 0; entries = 0 }
-    else answerOf (verdict edition2025 file deskEntries)
+    else answerOf (answerTo file deskEntries)

@@ -1,5 +1,6 @@
 // Replays a run of cases from standard input through the library, and prints what each comes to: through it any outside suite can hold the
 // library, table and writers included, against its own expectation. docs/REPLAY.md has the form of a case.
+use layout::Edition;
 use libc::STDIN_FILENO;
 use libc::STDOUT_FILENO;
 use rules::AmountRead;
@@ -222,9 +223,9 @@ fn replay_check(file: &[u8], table: &mut [u32]) {
     print_end();
 }
 
-fn replay_line(kind: u32, contents: &[u8], lengths: &[usize], out: &mut [u8]) {
+fn replay_line(e: Edition, kind: u32, contents: &[u8], lengths: &[usize], out: &mut [u8]) {
     fill_bytes(out);
-    let w = writer::write_line(kind, contents, lengths, out);
+    let w = writer::write_line(e, kind, contents, lengths, out);
     print_first(w.number as u64);
     print_next(w.field as u64);
     print_next(w.count as u64);
@@ -306,7 +307,7 @@ fn case_check() -> bool {
     true
 }
 
-fn case_line() -> bool {
+fn case_line(e: Edition) -> bool {
     let mut out = io::buffer();
     let mut contents = io::large_buffer();
     let mut lengths = [0usize; 32];
@@ -330,12 +331,27 @@ fn case_line() -> bool {
     let count = l.len;
     let size = room.len;
     replay_line(
+        e,
         kind.len as u32,
         &contents[..len],
         &lengths[..count],
         &mut out[..size],
     );
     true
+}
+
+// An edition as a number, and then a line.
+fn case_edition() -> bool {
+    let year = read_number();
+    if !year.ok {
+        return false;
+    }
+    let y = year.value;
+    match y {
+        2025 => case_line(Edition::Of2025),
+        2022 => case_line(Edition::Of2022),
+        _ => false,
+    }
 }
 
 fn case_field() -> bool {
@@ -392,7 +408,8 @@ fn case_write(letter: u8) -> bool {
 fn replay_case(letter: u8) -> bool {
     match letter {
         b'C' => case_check(),
-        b'W' => case_line(),
+        b'W' => case_line(Edition::Of2025),
+        b'E' => case_edition(),
         b'F' => case_field(),
         b'A' => case_read(letter),
         b'M' => case_read(letter),

@@ -1,9 +1,10 @@
 // Builds document 01's file of six lines with the line writer, one line after the other, on standard output.
+use layout::Edition;
 
 // Writes one line: the contents of its fields one after another, and their lengths. Of a refused line nothing is written.
 fn put(kind: u32, contents: &[u8], lengths: &[usize]) {
     let mut line = [0u8; 1026];
-    let written = writer::write_line(kind, contents, lengths, &mut line);
+    let written = writer::write_line(Edition::Of2025, kind, contents, lengths, &mut line);
     if written.number != 0 {
         io::write_all(libc::STDERR_FILENO, b"sample: a line was refused\n");
         return;

@@ -4,6 +4,7 @@ use Rattle.fields.proofs.Determined.{One}
 use Rattle.suite.proofs.decklesail_check_number.Reads as check-number
 use Rattle.suite.proofs.decklesail_check_line.Reads as check-line
 use Rattle.suite.proofs.decklesail_check_field.Reads as check-field
+use Rattle.suite.proofs.decklesail_edition.Reads as edition
 use Rattle.suite.proofs.decklesail_field_there.Reads as field-there
 use Rattle.suite.proofs.decklesail_field_start.Reads as field-start
 use Rattle.suite.proofs.decklesail_field_length.Reads as field-length
@@ -19,6 +20,9 @@ check-line-one κs a x y s t p q = p ∙ sym q
 
 pub check-field-one : One check-field.Post
 check-field-one κs a x y s t p q = p ∙ sym q
+
+pub edition-one : One edition.Post
+edition-one κs a x y s t p q = p ∙ sym q
 
 pub field-there-one : One field-there.Post
 field-there-one κs a x y s t p q = p ∙ sym q

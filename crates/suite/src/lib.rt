@@ -1,17 +1,19 @@
 // The functions that the pay offices' suite calls from C: one number of the answer a call. include/decklesail.h declares them.
+use layout::Edition;
 use rules::AmountRead;
 ghost use mathlib.Core.Path.{_≡_};
 ghost use mathlib.Core.Bool.{cond};
-ghost use Rattle.dirf.specs.Edition.{edition2025};
-ghost use Rattle.dirf.specs.Check.{verdict};
+ghost use Rattle.dirf.specs.Editions.{editionNameOf, yearOf};
+ghost use Rattle.dirf.specs.Check.{answerTo};
 ghost use Rattle.dirf.specs.FieldReader.{fieldThere, fieldStart, fieldLength};
 ghost use Rattle.dirf.specs.Amounts.{readAmount};
+ghost use Rattle.layout.specs.Editions.{editionSays};
 ghost use Rattle.rules.specs.Findings.{amountSays};
 
 // The number that the check of a file gives with room for so many entries.
 #[no_mangle]
 pub extern "C" fn decklesail_check_number(file: &[u8], room: usize) -> u32
-    ensures { λ r. ⌜ r ≡ verdict edition2025 (now (file .entry)) room .number ⌝ }
+    ensures { λ r. ⌜ r ≡ answerTo (now (file .entry)) room .number ⌝ }
 {
     checker::check_room(file, room).number
 }
@@ -19,7 +21,7 @@ pub extern "C" fn decklesail_check_number(file: &[u8], room: usize) -> u32
 // The line that it names; on acceptance the last.
 #[no_mangle]
 pub extern "C" fn decklesail_check_line(file: &[u8], room: usize) -> u32
-    ensures { λ r. ⌜ r ≡ verdict edition2025 (now (file .entry)) room .line ⌝ }
+    ensures { λ r. ⌜ r ≡ answerTo (now (file .entry)) room .line ⌝ }
 {
     checker::check_room(file, room).line
 }
@@ -27,9 +29,26 @@ pub extern "C" fn decklesail_check_line(file: &[u8], room: usize) -> u32
 // The field that it names, 0 where it names none.
 #[no_mangle]
 pub extern "C" fn decklesail_check_field(file: &[u8], room: usize) -> u32
-    ensures { λ r. ⌜ r ≡ verdict edition2025 (now (file .entry)) room .field ⌝ }
+    ensures { λ r. ⌜ r ≡ answerTo (now (file .entry)) room .field ⌝ }
 {
     checker::check_room(file, room).field
+}
+
+fn year(e: Edition) -> u32
+    ensures { λ r. ⌜ r ≡ yearOf (editionSays e) ⌝ }
+{
+    match e {
+        Edition::Of2025 => 2025,
+        Edition::Of2022 => 2022,
+    }
+}
+
+// The edition by which a file is judged: 2025 or 2022.
+#[no_mangle]
+pub extern "C" fn decklesail_edition(file: &[u8]) -> u32
+    ensures { λ r. ⌜ r ≡ yearOf (editionNameOf (now (file .entry))) ⌝ }
+{
+    year(layout::edition_of(file))
 }
 
 // Whether a line has a field k: 1 or 0, which every C compiler reads alike.
