@@ -3,7 +3,7 @@ mod lines;
 mod state;
 mod turn;
 
-use layout::Edition;
+use editions::Edition;
 use layout::HOLDERS;
 use layout::KINDS;
 use layout::NAME_BYTES;
@@ -19,7 +19,7 @@ ghost use Rattle.dirf.specs.Kinds.{DECPF};
 ghost use Rattle.dirf.specs.Editions.{editionOf};
 ghost use Rattle.dirf.specs.Check.{entryNumbers, answerTo};
 ghost use Rattle.layout.specs.Tables.{nameTable};
-ghost use Rattle.layout.specs.Editions.{editionSaid};
+ghost use Rattle.editions.specs.Editions.{editionSaid};
 ghost use Rattle.checker.specs.Lines.{thirdKind};
 ghost use Rattle.checker.specs.Answers.{answerOf, tableAfter, entryOfCode, putEntry, Tabled, Judged, JudgedAll};
 
@@ -153,7 +153,7 @@ fn walk_pj(
 fn judged(file: &[u8], room: usize, table: &mut [u32]) -> Answer
     ensures { λ r. ⌜ Judged (editionOf (now (file .entry))) (now (file .entry)) room (now (table .entry)) (now (table .exit)) r ⌝ }
 {
-    let e = layout::edition_of(file);
+    let e = editions::edition_of(file);
     let names = layout::name_table(e);
     if third_kind(&names, file) == 3 {
         return walk_pf(e, &names, file, room, table);

@@ -1,17 +1,7 @@
 -- A contract allows one result: any two results that it allows for the same arguments are equal.
-use Prim.Native.Nat.{ℕ}
-use mathlib.Core.Path.{_≡_, refl, sym, ap, _∙_}
-use native.Mathlib.Omega.{arith}
-use Rattle.dirf.specs.Editions.{of2025, of2022, yearOf}
+use mathlib.Core.Path.{sym, _∙_}
 use Rattle.fields.proofs.Determined.{One, OnePlace, by-parts}
-use Rattle.layout.specs.Editions.{editionSays}
-use Rattle.layout.specs.declared.Edition.{Edition}
-use Rattle.layout.specs.declared.Edition.the-variants as code
 use Rattle.layout.proofs as layout
-
-differ : of2025 ≡ of2022 → ⊥
-unfolding yearOf
-differ e = omega (arith, ap yearOf e)
 
 pub name-table-one : One layout.name_table.Reads.Post
 name-table-one κs a x y s t p q = p ∙ sym q
@@ -24,16 +14,6 @@ pf-table-one κs a x y s t p q = p ∙ sym q
 
 pub pj-table-one : One layout.pj_table.Reads.Post
 pj-table-one κs a x y s t p q = p ∙ sym q
-
--- a value of the code names one edition
-says-one : (x y : Edition) → editionSays x ≡ editionSays y → x ≡ y
-says-one code.Of2025 code.Of2025 e = refl
-says-one code.Of2025 code.Of2022 e = absurd (differ e)
-says-one code.Of2022 code.Of2025 e = absurd (differ (sym e))
-says-one code.Of2022 code.Of2022 e = refl
-
-pub edition-of-one : One layout.edition_of.Reads.Post
-edition-of-one κs a x y s t p q = says-one x y (p ∙ sym q)
 
 pub kind-of-one : One layout.kind_of.Reads.Post
 kind-of-one κs a x y s t p q = p ∙ sym q

@@ -1,7 +1,6 @@
 // The constant tables of the layout, and what they say of whoever reads them. A constant is built anew by every function that reads
-// it, so each is copied once, by a function of its own, and lent down. And which edition a file has.
-mod line;
-
+// it, so each is copied once, by a function of its own, and lent down.
+use editions::Edition;
 ghost use mathlib.Core.Path.{_≡_};
 ghost use Prim.Native.Nat.{_+_, _≤_};
 ghost use lib.ListN.{length, replicate};
@@ -13,8 +12,7 @@ ghost use Rattle.dirf.specs.Edition.{edition2025, kindIn};
 ghost use Rattle.dirf.specs.Tree.{blockOf};
 ghost use Rattle.layout.specs.Tables.{nameIn, nameStart, namesIn, baseIn, countIn, yesIn, holdsIn, nameTable, rowTable, belowTable};
 ghost use Rattle.layout.specs.Codes.{rowCodes};
-ghost use Rattle.dirf.specs.Editions.{editionNameOf};
-ghost use Rattle.layout.specs.Editions.{editionSays, editionSaid};
+ghost use Rattle.editions.specs.Editions.{editionSaid};
 
 // The kinds are numbered from 1, and 0 is none.
 pub const KINDS: usize = 74;
@@ -337,12 +335,6 @@ const BELOW_DECPJ: [[u8; KINDS]; HOLDERS] = [
     *b".............................................................Y............",
 ];
 
-// The two editions that are taken, and no third.
-pub enum Edition {
-    Of2025,
-    Of2022,
-}
-
 // A row of the field table: five bytes.
 pub struct Row {
     pub format: u8,
@@ -359,16 +351,6 @@ const NO_ROW: Row = Row {
     need: 0,
     holds: 0,
 };
-
-// Field 6 of line 1 picks it.
-pub fn edition_of(file: &[u8]) -> Edition
-    ensures { λ r. ⌜ editionSays r ≡ editionNameOf (now (file .entry)) ⌝ }
-{
-    if fields::same(fields::field(line::first(file), 6), b"XJFSFHB") {
-        return Edition::Of2022;
-    }
-    Edition::Of2025
-}
 
 fn names_2025() -> [u8; NAME_BYTES]
     ensures { λ r. ⌜ r ≡ nameTable edition2025 ⌝ }

@@ -1,6 +1,6 @@
 // Replays a run of cases from standard input through the library, and prints what each comes to: through it any outside suite can hold the
 // library, table and writers included, against its own expectation. docs/REPLAY.md has the form of a case.
-use layout::Edition;
+use editions::Edition;
 use libc::STDIN_FILENO;
 use libc::STDOUT_FILENO;
 use rules::AmountRead;

@@ -1,5 +1,5 @@
 // Builds document 01's file of six lines with the line writer, one line after the other, on standard output.
-use layout::Edition;
+use editions::Edition;
 
 // Writes one line: the contents of its fields one after another, and their lengths. Of a refused line nothing is written.
 fn put(kind: u32, contents: &[u8], lengths: &[usize]) {

@@ -1,5 +1,5 @@
 // The functions that the pay offices' suite calls from C: one number of the answer a call. include/decklesail.h declares them.
-use layout::Edition;
+use editions::Edition;
 use rules::AmountRead;
 ghost use mathlib.Core.Path.{_≡_};
 ghost use mathlib.Core.Bool.{cond};
@@ -7,7 +7,7 @@ ghost use Rattle.dirf.specs.Editions.{editionNameOf, yearOf};
 ghost use Rattle.dirf.specs.Check.{answerTo};
 ghost use Rattle.dirf.specs.FieldReader.{fieldThere, fieldStart, fieldLength};
 ghost use Rattle.dirf.specs.Amounts.{readAmount};
-ghost use Rattle.layout.specs.Editions.{editionSays};
+ghost use Rattle.editions.specs.Editions.{editionSays};
 ghost use Rattle.rules.specs.Findings.{amountSays};
 
 // The number that the check of a file gives with room for so many entries.
@@ -48,7 +48,7 @@ fn year(e: Edition) -> u32
 pub extern "C" fn decklesail_edition(file: &[u8]) -> u32
     ensures { λ r. ⌜ r ≡ yearOf (editionNameOf (now (file .entry))) ⌝ }
 {
-    year(layout::edition_of(file))
+    year(editions::edition_of(file))
 }
 
 // Whether a line has a field k: 1 or 0, which every C compiler reads alike.

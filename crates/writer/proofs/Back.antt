@@ -17,7 +17,7 @@ use Rattle.dirf.specs.Theorems.Plain.{wholeLine}
 use Rattle.dirf.specs.Theorems.ThereAndBack.{Sound-line, ReadsBack, together}
 use Rattle.dirf.proofs.back.NumbersBack.{numbers-back}
 use Rattle.dirf.proofs.Demands.{demands-named}
-use Rattle.layout.specs.Editions.{editionSays, editionSaid}
+use Rattle.editions.specs.Editions.{editionSays, editionSaid}
 use Rattle.writer.specs.declared.NumberWritten.{NumberWritten}
 use Rattle.writer.specs.Answers.{numberWritten, lineWritten}
 use Rattle.writer.proofs as writer

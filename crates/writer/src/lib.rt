@@ -1,5 +1,5 @@
 // The line writer, and the writers of amounts and month counts. A refusal leaves the output as it was.
-use layout::Edition;
+use editions::Edition;
 use rules::Centavos;
 use rules::Finding;
 use rules::MonthTenths;
@@ -14,7 +14,7 @@ ghost use Rattle.dirf.specs.Numbers.{decimal};
 ghost use Rattle.dirf.specs.Written.{outputAfter};
 ghost use Rattle.dirf.specs.Amounts.{writeNumber, writeAmount, writeMonths};
 ghost use Rattle.dirf.specs.LineWriter.{sum, cut, lineOf, writeLine};
-ghost use Rattle.layout.specs.Editions.{editionSaid};
+ghost use Rattle.editions.specs.Editions.{editionSaid};
 ghost use Rattle.rules.specs.Findings.{findingOf};
 ghost use Rattle.writer.specs.Answers.{numberWritten, lineWritten, misfitOf, contentsAlong, refusalOf};
 

@@ -2,7 +2,7 @@
 use mathlib.Core.Path.{sym, ap, _∙_}
 use borrow.Author.Needs.{needs}
 use Rattle.layout.specs.Tables.{belowTable}
-use Rattle.layout.specs.Editions.{editionSays, editionSaid}
+use Rattle.editions.specs.Editions.{editionSays, editionSaid}
 use Rattle.checker.specs.Answers.{SayAll}
 use Rattle.checker.proofs.Editions.{say-all}
 use Rattle.checker.proofs.Table.{judged-length}

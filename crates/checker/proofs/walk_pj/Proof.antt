@@ -1,7 +1,7 @@
 -- Line 3 is no DECPF.
 use mathlib.Core.Path.{sym, _∙_}
 use borrow.Author.Needs.{needs}
-use Rattle.layout.specs.Editions.{editionSays, editionSaid}
+use Rattle.editions.specs.Editions.{editionSays, editionSaid}
 use Rattle.layout.proofs.Editions.{other-table}
 use Rattle.checker.specs.Answers.{SayAll}
 use Rattle.checker.proofs.Editions.{say-all}

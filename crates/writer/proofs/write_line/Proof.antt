@@ -8,7 +8,7 @@ use Rattle.dirf.specs.Rules.{first}
 use Rattle.dirf.specs.LineWriter.{writing, writerOrder}
 use Rattle.dirf.specs.Written.{writes, outputAfter}
 use Rattle.layout.specs.LaidOut.{Say}
-use Rattle.layout.specs.Editions.{editionSays, editionSaid}
+use Rattle.editions.specs.Editions.{editionSays, editionSaid}
 use Rattle.layout.proofs.Laws.{says}
 use Rattle.layout.proofs.Editions.{laid-out}
 use Rattle.rules.specs.Findings.{findingOf}

@@ -3,8 +3,8 @@ use mathlib.Core.Path.{_∙_}
 use borrow.Author.Needs.{needs}
 use Rattle.dirf.proofs.files.Line1.{line1-front}
 use Rattle.fields.specs.Places.{partOf}
-use Rattle.layout.proofs.line.first.Statement.{statement}
-use Rattle.layout.proofs.line.first.Tie as tie
+use Rattle.editions.proofs.first.Statement.{statement}
+use Rattle.editions.proofs.first.Tie as tie
 
 pub first-spec : {M : Type 1} → statement M
 unfolding partOf

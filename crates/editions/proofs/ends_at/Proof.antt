@@ -2,8 +2,8 @@
 use mathlib.Core.Bool.{and-false}
 use native.Mathlib.Omega.{arith}
 use borrow.Author.Tests.{eq-eqb, ne-eqb}
-use Rattle.layout.proofs.line.ends_at.Statement.{statement}
-use Rattle.layout.proofs.line.ends_at.Tie as tie
+use Rattle.editions.proofs.ends_at.Statement.{statement}
+use Rattle.editions.proofs.ends_at.Tie as tie
 
 pub ends-at-spec : {M : Type 1} → statement M
 ends-at-spec =

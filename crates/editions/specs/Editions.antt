@@ -1,8 +1,8 @@
 -- The edition that a value of the code names.
 use Rattle.dirf.specs.Edition as dirf
 use Rattle.dirf.specs.Editions.{EditionName, of2025, of2022, editionNamed}
-use Rattle.layout.specs.declared.Edition.{Edition}
-use Rattle.layout.specs.declared.Edition.the-variants as code
+use Rattle.editions.specs.declared.Edition.{Edition}
+use Rattle.editions.specs.declared.Edition.the-variants as code
 
 abbrev pub editionSays : Edition → EditionName
 editionSays code.Of2025 = of2025

@@ -12,8 +12,8 @@ use Rattle.dirf.specs.Bytes.{Text}
 use Rattle.dirf.specs.Limits.{CR, LF}
 use Rattle.dirf.specs.Editions.{line1}
 use Rattle.dirf.proofs.files.Line1.{line1-short, line1-ends, line1-goes}
-use Rattle.layout.proofs.line.first_end.Statement.{statement}
-use Rattle.layout.proofs.line.first_end.Tie as tie
+use Rattle.editions.proofs.first_end.Statement.{statement}
+use Rattle.editions.proofs.first_end.Tie as tie
 
 abbrev Inv-loop : tie.InvT-loop
 Inv-loop s i₀ i = (i ≤ length s) × (length (line1 s) ≡ i + length (line1 (drop i s)))

@@ -6,8 +6,8 @@ use Rattle.dirf.specs.Layout.{mark2022}
 use Rattle.dirf.specs.Lines.{fields, field}
 use Rattle.dirf.specs.FieldReader.{fieldOf}
 use Rattle.dirf.specs.Editions.{line1, editionNameOf}
-use Rattle.layout.proofs.edition_of.Statement.{statement}
-use Rattle.layout.proofs.edition_of.Tie as tie
+use Rattle.editions.proofs.edition_of.Statement.{statement}
+use Rattle.editions.proofs.edition_of.Tie as tie
 
 asked : (c : tie.After-same) → let a = c .before .before .before .before .before .args in
     same (field 6 (fields (line1 (a .file .now)))) mark2022 ≡ c .same .result
