@@ -2,7 +2,7 @@
 use Prim.Native.Nat.{ℕ}
 use mathlib.Core.Path.{_≡_, refl}
 use mathlib.Core.Bool.{Bool, true}
-use mathlib.Core.List.{List, [], _∷_}
+use mathlib.Core.List.{List, []}
 use lib.Dec.{eqb, ltb}
 use lib.ListN.{getD, set, replicate}
 use lib.Seq.{sets}
@@ -13,7 +13,8 @@ use Rattle.dirf.specs.Below.{Children, byDeclarant}
 use Rattle.dirf.specs.Edition.{edition2025, edition2022, edition-opens}
 use Rattle.dirf.specs.Editions.{EditionName, of2025, of2022, editionNamed}
 use Rattle.dirf.proofs.tests.Bools.{if-cases}
-use Rattle.layout.specs.Tables.{holders, belowTable, nameIn, namesIn, isNamed, baseIn, nameTable, slotOf, concat, rowsIn, countIn, rowIn}
+use Rattle.layout.specs.Tables.{holders, belowTable, nameIn, namesIn, isNamed, baseIn, nameTable, slotOf, concat, rowsIn}
+use Rattle.layout.specs.Tables.{countIn, rowIn}
 use Rattle.layout.specs.Tables.{byteIn, rowOf, formatOf, fillOf, needOf, holdsOf, recordOf, rowBytesOf, formatByte, fillByte}
 use Rattle.layout.specs.Tables.{needByte, holdsByte, rowTable, yes}
 use Rattle.layout.specs.LaidOut.{LaidOut, isKind}

@@ -17,7 +17,8 @@ use Rattle.dirf.proofs.tests.Bools.{if-cases}
 use Rattle.dirf.proofs.tests.Says.{below-or}
 use Rattle.dirf.proofs.tables.Tables.{in-table}
 use Rattle.fields.specs.Places.{mostFields}
-use Rattle.layout.specs.Tables.{kinds, holders, nameIn, namesIn, isNamed, baseIn, nameTable, rowBytes, recordBytes, rowIn, rowsIn, countIn}
+use Rattle.layout.specs.Tables.{kinds, holders, nameIn, namesIn, isNamed, baseIn, nameTable, rowBytes, recordBytes, rowIn}
+use Rattle.layout.specs.Tables.{rowsIn, countIn}
 use Rattle.layout.specs.Tables.{byteIn, rowTable, recordOf, yes, yesIn, holdsIn, belowTable}
 use Rattle.layout.specs.LaidOut.{Say, SayBelow, isKind, LaidOut}
 use Rattle.layout.specs.Codes.{rowCodes, rowSaid}

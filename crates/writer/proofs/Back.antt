@@ -92,7 +92,8 @@ module _ (κs : _) (a : _) (r : _) (s : _) (p : writer.write_line.Reads.Post κs
 
   -- and every line that breaks no rule of a line is what is written for its kind and its fields, where there is room
   pub line-there : (text : Text) → Sound-line (editionSaid (a .0)) (wholeLine text) → length text + 2 ≤ length (now (a .1 .1 .1 .1 .0))
-      → a .1 .0 ≡ kindOfLine (editionSaid (a .0)) text → now (a .1 .1 .0) ≡ together (fields text) → now (a .1 .1 .1 .0) ≡ map length (fields text)
+      → a .1 .0 ≡ kindOfLine (editionSaid (a .0)) text → now (a .1 .1 .0) ≡ together (fields text)
+      → now (a .1 .1 .1 .0) ≡ map length (fields text)
       → (r .number ≡ 0) × (take (r .count) (now (s .1 .1 .1 .1 .0)) ≡ text ++ (13 ∷ 10 ∷ []))
   unfolding lineWritten
   line-there text sound room k c l =

@@ -13,8 +13,8 @@ all : (c : tie.After-pf-table) → let a = c .before .before .before .before .ar
     SayAll (editionSaid (a .e)) (a .names .now) (c .before .row-table .result) (c .pf-table .result) (a .file .now)
 all c =
     let s = c .before .before .before .before in
-    let p = s .pre in
-    say-all (editionSays (s .args .e)) _ (p .0) (c .before .row-table .ensures) (c .pf-table .ensures ∙ ap (belowTable _) (sym (p .1)))
+    let n = editionSays (s .args .e) in
+    say-all n _ (s .pre .0) (c .before .row-table .ensures) (c .pf-table .ensures ∙ ap (belowTable _) (sym (s .pre .1)))
 
 pub walk-pf-spec : {M : Type 1} → statement M
 walk-pf-spec =

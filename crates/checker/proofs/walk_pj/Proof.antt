@@ -13,8 +13,8 @@ all : (c : tie.After-pj-table) → let a = c .before .before .before .before .ar
     SayAll (editionSaid (a .e)) (a .names .now) (c .before .row-table .result) (c .pj-table .result) (a .file .now)
 all c =
     let s = c .before .before .before .before in
-    let p = s .pre in
-    say-all (editionSays (s .args .e)) _ (p .0) (c .before .row-table .ensures) (c .pj-table .ensures ∙ sym (other-table (editionSays (s .args .e)) _ (p .1)))
+    let n = editionSays (s .args .e) in
+    say-all n _ (s .pre .0) (c .before .row-table .ensures) (c .pj-table .ensures ∙ sym (other-table n _ (s .pre .1)))
 
 pub walk-pj-spec : {M : Type 1} → statement M
 walk-pj-spec =

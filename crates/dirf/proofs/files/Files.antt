@@ -1,19 +1,18 @@
 -- The demands of the answer to a file, out of those of an edition: which edition it is hangs on line 1 alone.
 use Prim.Native.Nat.{ℕ, zero, suc, _≤_, _<_}
 use mathlib.Core.Path.{_≡_, refl, sym, ap, _∙_, subst}
-use mathlib.Core.Bool.{_&&_, false, false≢true}
+use mathlib.Core.Bool.{false≢true}
 use mathlib.Core.List.{List, [], _∷_, _++_}
 use native.Mathlib.Omega.{arith}
 use lib.Dec.{eqb}
 use lib.ListN.{length, getD}
 use borrow.Author.Tests.{eqb-true, eqb-false}
 use Rattle.dirf.specs.Bytes.{if_then_else_, Text, bytes, every, same, bytes-opens}
-use Rattle.dirf.specs.Limits.{CR, LF}
 use Rattle.dirf.specs.Kinds.{Dirf, kinds-opens}
 use Rattle.dirf.specs.Row.{Row, row, C, fixed, obligatory, oneOf}
 use Rattle.dirf.specs.Layout.{mark2022}
 use Rattle.dirf.specs.Edition.{Edition, rowsOf, edition-opens}
-use Rattle.dirf.specs.Lines.{Piece, push, pieces, fields, field}
+use Rattle.dirf.specs.Lines.{Piece, pieces, fields, field}
 use Rattle.dirf.specs.Editions.{EditionName, of2025, of2022, editionNamed, firstBody, line1, editionNameOf, editionOf}
 use Rattle.dirf.specs.Order.{here, kindOfLine, contentsOf, closed}
 use Rattle.dirf.specs.Check.{answerTo, refused, noBytesLeft, run, verdict}

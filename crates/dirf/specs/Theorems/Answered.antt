@@ -1,6 +1,7 @@
 -- Demand 2: "A file is accepted exactly when it is closed, keeps the stated limits, fits the table, and no line breaks a field, nesting,
--- condition or order rule of the layout as document 01 reads it. Otherwise the first breach in document 01's order is named." And demand 1: "Bad input is refused with a number, and in a file with its line and field too"; "A refused file leaves the
--- record table holding the lines before the bad one".
+-- condition or order rule of the layout as document 01 reads it. Otherwise the first breach in document 01's order is named." And
+-- demand 1: "Bad input is refused with a number, and in a file with its line and field too"; "A refused file leaves the record table
+-- holding the lines before the bad one".
 use Prim.Native.Nat.{ℕ}
 use mathlib.Core.Path.{_≡_}
 use mathlib.Core.Bool.{Bool, true}

@@ -1,5 +1,4 @@
 -- The two bytes, one after the other.
-use mathlib.Core.Bool.{and-false}
 use native.Mathlib.Omega.{arith}
 use borrow.Author.Tests.{eq-eqb, ne-eqb}
 use Rattle.editions.proofs.ends_at.Statement.{statement}

@@ -52,7 +52,8 @@ first-end-spec =
     (λ c.
     let l = c .before .before .before in
     let s = l .before .before .args .s .now in
-    omega (arith, l .loop .inv .1, ends s (l .loop .i) (c .before .before .loop-test .taken) (sym (c .before .ends-at .ensures) ∙ c .if1 .taken)))
+    let e = ends s (l .loop .i) (c .before .before .loop-test .taken) (sym (c .before .ends-at .ensures) ∙ c .if1 .taken) in
+    omega (arith, l .loop .inv .1, e))
     (λ c. omega arith)
     (λ c. omega arith)
     (λ c.
