@@ -25,42 +25,33 @@ each : (pf pj : Children) (test : ℕ × List ℕ → Bool) → every test pf �
 unfolding byDeclarant
 each pf pj test f j d = if-cases (λ (t : Children). every test t ≡ true) (eqb d DECPF) (λ _. f) (λ _. j)
 
-pub laidOut2025 : LaidOut edition2025
-unfolding nameIn namesIn isNamed baseIn nameTable slotOf concat rowsIn countIn rowIn byteIn rowOf formatOf fillOf needOf holdsOf
-    recordOf rowBytesOf formatByte fillByte needByte holdsByte bytes-opens edition-opens
-laidOut2025 =
-    record {
-      named-kinds = refl;
-      laid-kinds = refl;
-      holds = each _ _ (λ r. ltb (r .0) holders) refl refl;
-      held = each _ _ (λ r. every isKind (r .1)) refl refl;
-      names = refl;
-      name = refl;
-      base = refl;
-      widths = refl;
-      records = λ after. refl;
-    }
-
-pub laidOut2022 : LaidOut edition2022
-unfolding nameIn namesIn isNamed baseIn nameTable slotOf concat rowsIn countIn rowIn byteIn rowOf formatOf fillOf needOf holdsOf
-    recordOf rowBytesOf formatByte fillByte needByte holdsByte bytes-opens kinds-opens edition-opens
-laidOut2022 =
-    record {
-      named-kinds = refl;
-      laid-kinds = refl;
-      holds = each _ _ (λ r. ltb (r .0) holders) refl refl;
-      held = each _ _ (λ r. every isKind (r .1)) refl refl;
-      names = refl;
-      name = refl;
-      base = refl;
-      widths = refl;
-      records = λ after. refl;
-    }
-
 pub laid-out : (n : EditionName) → LaidOut (editionNamed n)
-unfolding editionNamed
-laid-out of2025 = laidOut2025
-laid-out of2022 = laidOut2022
+unfolding nameIn namesIn isNamed baseIn nameTable slotOf concat rowsIn countIn rowIn byteIn rowOf formatOf fillOf needOf holdsOf
+    recordOf rowBytesOf formatByte fillByte needByte holdsByte bytes-opens kinds-opens edition-opens editionNamed
+laid-out of2025 =
+    record {
+      named-kinds = refl;
+      laid-kinds = refl;
+      holds = each _ _ (λ r. ltb (r .0) holders) refl refl;
+      held = each _ _ (λ r. every isKind (r .1)) refl refl;
+      names = refl;
+      name = refl;
+      base = refl;
+      widths = refl;
+      records = λ after. refl;
+    }
+laid-out of2022 =
+    record {
+      named-kinds = refl;
+      laid-kinds = refl;
+      holds = each _ _ (λ r. ltb (r .0) holders) refl refl;
+      held = each _ _ (λ r. every isKind (r .1)) refl refl;
+      names = refl;
+      name = refl;
+      base = refl;
+      widths = refl;
+      records = λ after. refl;
+    }
 
 -- what is no DECPF has the list of DECPJ
 pub other-table : (n : EditionName) (d : ℕ) → (d ≡ DECPF → ⊥) → belowTable (editionNamed n) d ≡ belowTable (editionNamed n) DECPJ

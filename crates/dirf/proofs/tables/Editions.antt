@@ -11,7 +11,7 @@ use Rattle.dirf.specs.Limits.{linesLimit}
 use Rattle.dirf.specs.Kinds.{Dirf, RESPO, DECPF, FIMDirf, kinds-opens}
 use Rattle.dirf.specs.Row.{Row}
 use Rattle.dirf.specs.Layout.{dirfRows2025, dirfRows2022, respoRows, decpfRows, fimdirfRows}
-use Rattle.dirf.specs.Below.{underDECPF2025, underDECPJ2025, underDECPF2022, underDECPJ2022}
+use Rattle.dirf.specs.Below.{Children, underDECPF2025, underDECPJ2025, underDECPF2022, underDECPJ2022}
 use Rattle.dirf.specs.Edition.{Edition, kindOf, nameOf, rowsOf, edition2025, edition2022, edition-opens}
 use Rattle.dirf.specs.Editions.{EditionName, of2025, of2022, editionNamed}
 use Rattle.dirf.specs.LineWriter.{sum}
@@ -30,13 +30,19 @@ pub counted2022 : Counted edition2022 71 54 533 211
 unfolding bytes-opens kinds-opens edition-opens sum count largestOf
 counted2022 = record { all = refl; taken = refl; laid-out = refl; longest-line = refl }
 
-tested2025 : Tested edition2025 underDECPF2025 underDECPJ2025
-unfolding bytes-opens kinds-opens edition-opens sum count level rising nests belowTest tests
-tested2025 = record { lists = refl; passed = refl; identified = refl }
+-- the lists of an edition
+abbrev underDECPF : EditionName → Children
+underDECPF of2025 = underDECPF2025
+underDECPF of2022 = underDECPF2022
 
-tested2022 : Tested edition2022 underDECPF2022 underDECPJ2022
-unfolding bytes-opens kinds-opens edition-opens sum count level rising nests belowTest tests
-tested2022 = record { lists = refl; passed = refl; identified = refl }
+abbrev underDECPJ : EditionName → Children
+underDECPJ of2025 = underDECPJ2025
+underDECPJ of2022 = underDECPJ2022
+
+tested : (n : EditionName) → Tested (editionNamed n) (underDECPF n) (underDECPJ n)
+unfolding bytes-opens kinds-opens edition-opens sum count level rising nests belowTest tests editionNamed
+tested of2025 = record { lists = refl; passed = refl; identified = refl }
+tested of2022 = record { lists = refl; passed = refl; identified = refl }
 
 -- a record's identifier and rows in an edition
 abbrev Has : Edition → ℕ → Text → List Row → Type 0
@@ -92,21 +98,18 @@ module _ (e : Edition) where
         closes = has .fimdirf .0;
       }
 
-has2025 : HasLines of2025 edition2025
-unfolding bytes-opens edition-opens
-has2025 = record { dirf = (refl, refl, refl); respo = (refl, refl, refl); decpf = (refl, refl, refl); fimdirf = (refl, refl, refl) }
-
-has2022 : HasLines of2022 edition2022
-unfolding bytes-opens kinds-opens edition-opens
-has2022 = record { dirf = (refl, refl, refl); respo = (refl, refl, refl); decpf = (refl, refl, refl); fimdirf = (refl, refl, refl) }
-
-pub sound2025 : Sound edition2025
-sound2025 = sound tested2025 (closable edition2025 of2025 has2025)
-
-pub sound2022 : Sound edition2022
-sound2022 = sound tested2022 (closable edition2022 of2022 has2022)
+has : (n : EditionName) → HasLines n (editionNamed n)
+unfolding bytes-opens kinds-opens edition-opens editionNamed
+has of2025 = record { dirf = (refl, refl, refl); respo = (refl, refl, refl); decpf = (refl, refl, refl); fimdirf = (refl, refl, refl) }
+has of2022 = record { dirf = (refl, refl, refl); respo = (refl, refl, refl); decpf = (refl, refl, refl); fimdirf = (refl, refl, refl) }
 
 pub sound-named : (n : EditionName) → Sound (editionNamed n)
+sound-named n = sound (tested n) (closable (editionNamed n) n (has n))
+
+pub sound2025 : Sound edition2025
 unfolding editionNamed
-sound-named of2025 = sound2025
-sound-named of2022 = sound2022
+sound2025 = sound-named of2025
+
+pub sound2022 : Sound edition2022
+unfolding editionNamed
+sound2022 = sound-named of2022
