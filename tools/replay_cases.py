@@ -21,7 +21,7 @@ END = "\r\n"
 CPF, CNPJ, OTHER_CNPJ = makers.PERSON, makers.COMPANY, makers.cnpj(222223330001)
 
 # names, rows and lists are not typed again: tools/layout.txt has them
-LAYOUT = layout.read()
+LAYOUT = layout.read()[2025]
 KIND, LATER, ROWS = LAYOUT.kinds, LAYOUT.later, LAYOUT.rows
 
 
