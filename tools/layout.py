@@ -20,7 +20,7 @@ class Row(NamedTuple):
 
 
 class Layout(NamedTuple):
-    """Of one edition. Numbers by identifier; the kinds left for later; rows by kind; children by declarant and parent. All in the order of the file."""
+    """Of an edition, in the order of the file: numbers by identifier; kinds left for later; rows by kind; children by declarant, parent."""
     kinds: dict
     later: list
     rows: dict
