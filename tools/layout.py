@@ -1,9 +1,11 @@
-"""Reads layout.txt: kinds, rows and what may stand below what, as crates/dirf/specs has them (docs/TABLES.md)."""
+"""Reads layout.txt: of each edition kinds, rows and what may stand below what, as crates/dirf/specs has them (docs/TABLES.md)."""
 import os
 import sys
 from typing import NamedTuple
 
 PATH = os.path.join(os.path.dirname(os.path.abspath(__file__)), "layout.txt")
+# whose a line is, by its first word
+EDITIONS = {"2025": (2025,), "2022": (2022,), "both": (2025, 2022)}
 # what a row holds where the sources print its values
 LISTED = ("oneOf", "sOrN")
 
@@ -18,7 +20,7 @@ class Row(NamedTuple):
 
 
 class Layout(NamedTuple):
-    """Numbers by identifier; the kinds left for later; rows by kind; children by declarant and parent. All in the order of the file."""
+    """Of an edition, in the order of the file: numbers by identifier; kinds left for later; rows by kind; children by declarant, parent."""
     kinds: dict
     later: list
     rows: dict
@@ -46,9 +48,13 @@ def take(table, words):
 
 
 def read(path=PATH):
-    table = Layout({}, [], {}, {})
+    """The layout of each edition, by its year."""
+    tables = {edition: Layout({}, [], {}, {}) for edition in EDITIONS["both"]}
     with open(path, encoding="utf-8") as file:
         for line in file:
-            if not line.startswith("#") and not take(table, line.split()):
+            whose, *words = line.split()
+            if whose == "#":
+                continue
+            if whose not in EDITIONS or not all(take(tables[edition], words) for edition in EDITIONS[whose]):
                 sys.exit("layout: not understood: " + line)
-    return table
+    return tables

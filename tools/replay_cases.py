@@ -1,5 +1,5 @@
 #!/usr/bin/env python3
-"""Writes stdin, a run of cases, and stdout, what document 01 demands for each, to crates/replay or to the folder that is named.
+"""Writes stdin, a run of cases, and stdout, what documents 01 and 02 demand for each, to crates/replay or to the folder that is named.
 
 Nothing here asks the program. Of a file the number, the line and the field are written beside it, and the indents of its lines say which
 line is the parent of which; of docs/TOUR.md's file the page says it. Records, rows and lists are those of layout.txt, and each case says
@@ -21,7 +21,9 @@ END = "\r\n"
 CPF, CNPJ, OTHER_CNPJ = makers.PERSON, makers.COMPANY, makers.cnpj(222223330001)
 
 # names, rows and lists are not typed again: tools/layout.txt has them
-LAYOUT = layout.read()
+LAYOUTS = layout.read()
+# a kind has the same number in both editions, and the older one has no other kinds and no other rows but Dirf's
+LAYOUT = LAYOUTS[2025]
 KIND, LATER, ROWS = LAYOUT.kinds, LAYOUT.later, LAYOUT.rows
 
 
@@ -40,10 +42,16 @@ ORDER, PEOPLE = HELD["DECPJ"], HELD["IDREC"] + HELD["SCP"]
 # the beneficiaries of each block, whose names end as its own does, the declarant's own under ""
 BLOCKS = {block: [who for who in PEOPLE if who.endswith(block or "DEC")] for block in ["", *ORDER[1:]]}
 
-# the value records of each beneficiary
-BELOW = {declarant: {who: names for who, names in held.items() if who in PEOPLE} for declarant, held in LAYOUT.below.items()}
-# what a person may declare of a BPFDEC comes first in a company's file too
-BELOW["DECPJ"]["BPFDEC"] = sorted(BELOW["DECPJ"]["BPFDEC"], key=lambda name: name not in BELOW["DECPF"]["BPFDEC"])
+
+def values_below(table):
+    """By declarant, the value records of each beneficiary."""
+    below = {declarant: {who: names for who, names in held.items() if who in PEOPLE} for declarant, held in table.below.items()}
+    # what a person may declare of a BPFDEC comes first in a company's file too
+    below["DECPJ"]["BPFDEC"] = sorted(below["DECPJ"]["BPFDEC"], key=lambda name: name not in below["DECPF"]["BPFDEC"])
+    return below
+
+
+BELOW = values_below(LAYOUT)
 VALUES = MONTHLY + ANNUAL + [name for name in ROWS if name not in MONTHLY + ANNUAL and any(name in HELD[who] for who in PEOPLE)]
 
 # a line of each record that keeps every rule; value records besides, below. The declarants' are those of a file without blocks
@@ -144,12 +152,14 @@ def pj(tree):
     return "Dirf\nRESPO\nDECPJ\n" + tree.strip("\n")
 
 
-def write(kind, cells, breach, field=0, room=300, contents=None, lengths=None):
+def write(kind, cells, breach, field=0, room=300, contents=None, lengths=None, edition=None):
+    """By `W`, or by `E` where an edition is named."""
     contents = "".join(cells) if contents is None else contents
     lengths = [len(cell) for cell in cells] if lengths is None else lengths
     text = "".join(cell + "|" for cell in cells) + END if breach == 0 else ""
     given = [number(kind), number(room), string(contents), number(len(lengths))] + [number(n) for n in lengths]
-    case("W", given, words(breach, field, len(text), 1, text.encode("latin-1").hex()))
+    letter, told = ("W", []) if edition is None else ("E", [number(edition)])
+    case(letter, told + given, words(breach, field, len(text), 1, text.encode("latin-1").hex()))
 
 
 def cells_of(name, records=()):
@@ -272,9 +282,9 @@ def values(names, depth):
     return "\n".join(" " * depth + name for name in names)
 
 
-def full(declarant, turned):
+def full(declarant, turned, below=BELOW):
     """Every record that the declarant's list has, each value record once; turned round, the value records come in the other order."""
-    has = {who: names[::-1] if turned else names for who, names in BELOW[declarant].items()}
+    has = {who: names[::-1] if turned else names for who, names in below[declarant].items()}
     if declarant == "DECPJ":
         order = [("BPFDEC", 6), ("BPJDEC", 6), ("BPFFCI", 8), ("BPJFCI", 8), ("BPFPROC", 8), ("BPJPROC", 8), ("BPFRRA", 8), ("BPFSCP", 6),
         ("BPJSCP", 6)]
@@ -886,10 +896,162 @@ def tour():
         check_lines(lines[: line - 1] + [(text, 0)] + lines[line:], *answer)
 
 
+# ---- the two editions: document 02, A4, and of the older one what document 000 prints
+
+
+FIRST = {2025: LINE["Dirf"], 2022: "Dirf|2022|2021|N||XJFSFHB|"}
+# what the older edition has not
+GONE = ("RTDS", "ESDS")
+
+
+def with_first(line, tree):
+    return "=" + line + tree[tree.index("\n") :]
+
+
+def older(tree):
+    return with_first(FIRST[2022], tree)
+
+
+def first_lines():
+    """Field 6 of a Dirf picks the edition, fields 2 and 3 do not; what stands in line 1 is judged by that edition."""
+    for fields, breach, field in [
+        ("2022|2021|N||XJFSFHB|", 0, 0), ("2022|2022|N||XJFSFHB|", 0, 0), ("2022|2022|S|123456789012|XJFSFHB|", 0, 0),
+        ("2025|2021|N||XJFSFHB|", 18, 2), ("2025|2024|N||XJFSFHB|", 18, 2), ("2021|2021|N||XJFSFHB|", 18, 2),
+        ("2022|2024|N||XJFSFHB|", 18, 3), ("2022|2020|N||XJFSFHB|", 18, 3), ("2022|2023|N||XJFSFHB|", 18, 3),
+        ("|2021|N||XJFSFHB|", 13, 2), ("2022||N||XJFSFHB|", 13, 3), ("2022|2021|||XJFSFHB|", 13, 4), ("2022|2021|n||XJFSFHB|", 18, 4),
+        ("202x|2021|N||XJFSFHB|", 14, 2), ("2022|20211|N||XJFSFHB|", 15, 3), ("2022|2021|N|1|XJFSFHB|", 15, 5),
+        # the mark of 2025
+        ("2022|2021|N||R6GP3ZA|", 18, 2), ("2022|2024|N||R6GP3ZA|", 18, 2), ("2025|2021|N||R6GP3ZA|", 18, 3),
+        ("2025|2022|N||R6GP3ZA|", 18, 3),
+        # a mark of neither, by the rules of 2025
+        ("2025|2024|N||XJFSFHA|", 18, 6), ("2025|2024|N|||", 13, 6), ("2022|2021|N||XJFSFHA|", 18, 2), ("2022|2021|N|||", 18, 2),
+        ("2025|2024|N||xjfsfhb|", 18, 6), ("2025|2024|N||XJFSFHb|", 18, 6), ("2022|2021|N||xjfsfhb|", 18, 2),
+        ("2025|2024|N||XJFSFHBX|", 15, 6), ("2025|2024|N||XJFSFHB |", 15, 6), ("2025|2024|N|| XJFSFHB|", 15, 6),
+        ("2025|2024|N||XJFSFH|", 15, 6), ("2022|2021|N||XJFSFHBX|", 18, 2),
+        # a mark without its bar; one field too many or too few
+        ("2022|2021|N||XJFSFHB", 8, 0), ("2025|2024|N||XJFSFHB", 8, 0), ("2022|2021|N||XJFSFHB||", 11, 0),
+        ("2022|2021|N||XJFSFHB|R6GP3ZA|", 11, 0), ("2022|2021|N|XJFSFHB|", 11, 0), ("2022|2021|N|||XJFSFHB|", 11, 0),
+    ]:
+        check(with_first("Dirf|" + fields, SIX), breach, 1 if breach else 6, field)
+
+
+def picked():
+    """Field 6 of any record in line 1 picks: RTDS and ESDS there are 9 by the older edition and 12 by that of 2025."""
+    for name in GONE:
+        for fields, breach in [
+            ("2022|2021|N||XJFSFHB|", 9), ("2025|2024|N||XJFSFHB|", 9), ("2022|2021|N||R6GP3ZA|", 12), ("2025|2024|N||R6GP3ZA|", 12),
+            ("||||XJFSFHB|", 9), ("||||XJFSFHB|R6GP3ZA|", 9), ("||||XJFSFHB" + "|" * 9, 9), ("||||R6GP3ZA|XJFSFHB|", 12),
+            ("", 12), ("|" * 4, 12), ("|" * 5, 12), ("|" * 13, 12), ("|||XJFSFHB|", 12), ("|||XJFSFHB||", 12), ("|||||XJFSFHB|", 12),
+            ("||||XJFSFHA|", 12), ("||||xjfsfhb|", 12), ("||||XJFSFHb|", 12), ("||||XJFSFHBX|", 12), ("||||XXJFSFHB|", 12),
+            ("||||XJFSFHB |", 12), ("|||| XJFSFHB|", 12), ("||||XJFSFHB\x00|", 12), ("||||XJFSFH|", 12), ("||||JFSFHB|", 12),
+            # lines of 1,024 bytes
+            ("A" * 1007 + "||||XJFSFHB|", 9), ("A" * 1007 + "||||R6GP3ZA|", 12), ("||||XJFSFHB|" + "A" * 1006 + "|", 9),
+        ]:
+            check("=" + name + "|" + fields, breach, 1, 1)
+        # line 1 alone picks, however few fields it has
+        check("=" + name + "|||||\n=XJFSFHB|", 12, 1, 1)
+        check("=" + name + "|\n=" + name + "|||||XJFSFHB|", 12, 1, 1)
+        # the other identifiers have one number in both
+        for other, breach in (("RESPO", 12), ("RTDP", 12), ("FIMDirf", 12), ("INFPC", 10), ("DIRF", 9), ("", 9)):
+            check("=" + other + "|||||XJFSFHB|\n=" + name + "|", breach, 1, 1)
+
+
+def later_lines():
+    """A mark in a later line picks nothing."""
+    check(with_first("Dirf|2025|2024|N||", SIX.replace("RESPO", "=RESPO|||||XJFSFHB|")), 11, 1)
+    for name in GONE:
+        tree = f"  PROC|1|1|1|{CPF}|%s||\n    IDREC\n      BPFPROC\n        {name}\nFIMDirf"
+        for mark in ("XJFSFHB", "R6GP3ZA"):
+            check(pj(tree % mark), 0, 8)
+            check(older(pj(tree % mark)), 9, 7, 1)
+    for first, second in ((2025, 2022), (2022, 2025)):
+        check(f"={FIRST[first]}\n={FIRST[second]}", 12, 2, 1)
+
+
+def first_line_ends():
+    """Line 1 refused with 4, 5, 6 or 8: alike in both editions, and for a record that one of them has not."""
+    for line in [*FIRST.values(), "RTDS|||||XJFSFHB|", "RTDS|||||R6GP3ZA|"]:
+        for data, breach in [
+            (line, 5), (line + "\r", 5), (line + "\n", 6), (line + "\rx", 6), (line + "\r\r\n", 6), (line + "\n\r\n", 6),
+            (line.replace("|", "|\n", 1) + END, 6), (line[:-1] + "\r|" + END, 6),
+            (line[:-1] + END, 8), (line + "x" + END, 8), (END + line + END, 8),
+            (line + "x" * 1024, 4), (line + "x" * 1024 + END, 4), (line + "|" * 1024 + END, 4),
+        ]:
+            check_bytes(data, [], breach, 1)
+
+
+def older_files():
+    """Files of the older edition: every record that it has, every breach of a line, and what it has not."""
+    below = values_below(LAYOUTS[2022])
+    for declarant in ("DECPF", "DECPJ"):
+        for turned in (False, True):
+            tree = full(declarant, turned, below)
+            for first in FIRST.values():
+                check(with_first(first, tree), 0, tree.count("\n") + 1)
+            # a file of 2025 under the older mark ends at the first record that is gone
+            tree = older(full(declarant, turned))
+            records = [row.strip() for row in tree.split("\n")]
+            check(tree, 9, 1 + min(records.index(name) for name in GONE), 1)
+    for breach, tree, line, field in faults():
+        check(older(tree), breach, line, field)
+    for name in LATER:
+        check("=" + name + "|2022|2021|N||XJFSFHB|", 10, 1, 1)
+        for tree in (pf, pj):
+            check(older(tree("  =" + name + "|1|2|\nFIMDirf")), 10, 4, 1)
+    check(older("Dirf\nRESPO"), 1, 3)
+    check(older(SIX), 2, 7, after="\n")
+    check(older(SIX), 7, 6, room=5)
+
+
+def gone():
+    """What the older edition has not, in every line from the second on: 9, before 12 and before 11."""
+    below = {declarant: {who: names[:1] for who, names in has.items()} for declarant, has in values_below(LAYOUTS[2022]).items()}
+    for declarant in ("DECPF", "DECPJ"):
+        rows = older(full(declarant, False, below)).split("\n")
+        for line in range(2, len(rows) + 1):
+            for name in GONE:
+                for text in (LINE[name], name + "|"):
+                    check("\n".join(rows[: line - 1] + ["=" + text]), 9, line, 1)
+
+
+def first_cells(edition):
+    return FIRST[edition].split("|")[:-1]
+
+
+def kinds_written():
+    """Every kind by the line writer of each edition: 22, before all else, for those that it has not in its base."""
+    names = {number: name for name, number in KIND.items()}
+    for edition in FIRST:
+        for kind in [*range(len(KIND) + 2), 255, 2**32 - 1]:
+            name = names.get(kind, "")
+            cells = first_cells(edition) if name == "Dirf" else cells_of(name)
+            refused = name == "" or name in LATER or (edition == 2022 and name in GONE)
+            write(kind, cells, 22 if refused else 0, edition=edition)
+        for name in GONE:
+            write(KIND[name], [], 22 if edition == 2022 else 11, edition=edition)
+            write(KIND[name], [], 22 if edition == 2022 else 23, contents="", lengths=[2**64 - 1] * 14, edition=edition)
+            write(KIND[name], cells_of(name), 22 if edition == 2022 else 24, room=0, edition=edition)
+
+
+def first_lines_written():
+    """Line 1 by the line writer: of each row what it takes and what it refuses; the other edition's values are 18, and pick nothing."""
+    for edition, other in ((2025, 2022), (2022, 2025)):
+        right, wrong = first_cells(edition), first_cells(other)
+        write(KIND["Dirf"], wrong, 18, 2, edition=edition)
+        tried = [(field, wrong[field - 1], 18) for field in (2, 3, 6)]
+        for field, row in enumerate(LAYOUTS[edition].rows["Dirf"][1:], 2):
+            tried += [(field, cell, breach) for cell, breach in taken(row)]
+        for field, cell, breach in tried:
+            write(KIND["Dirf"], right[: field - 1] + [cell] + right[field:], breach, field if breach else 0, edition=edition)
+    # W is for 2025
+    write(KIND["Dirf"], first_cells(2022), 18, 2)
+
+
 def limits():
     """The most that a case may have, and last of all a case beyond it: what comes after that is not read."""
     check_bytes("".join(text + END for text, _ in lines_of(SIX)), lines_of(SIX), 0, 6, room=3000, spare=3)
-    case("W", [number(KIND["FIMDirf"]), number(4096), string("FIMDirf"), number(1), number(7)], words(0, 0, 10, 1, b"FIMDirf|\r\n".hex()))
+    for edition in (None, 2025, 2022):
+        write(KIND["FIMDirf"], ["FIMDirf"], 0, room=4096, edition=edition)
     case("C", [number(12004), string("")], "bad case")
     RUN.append(b"A" + string("1"))
 
@@ -897,7 +1059,8 @@ def limits():
 def main(folder=os.path.join(ROOT, "crates", "replay")):
     for group in (marked, line_ends, identifiers, whole_files, places, below, orders, rooms, pairs, field_rules, identifier_rules,
     conditions, writer_order,
-                  field_places, numbers, wrong_checkers, tour, limits):
+                  field_places, numbers, wrong_checkers, tour, first_lines, picked, later_lines, first_line_ends, older_files, gone,
+                  kinds_written, first_lines_written, limits):
         group()
     with open(os.path.join(folder, "stdin"), "wb") as out:
         out.write(b"".join(RUN))
