@@ -225,7 +225,8 @@ INF = 72
 abbrev pub FIMDirf : ℕ
 FIMDirf = 73
 
--- 01, "What the checker covers": "Document 000 decides the spelling of identifiers."
+-- 01, "What the checker covers": "Document 000 decides the spelling of identifiers." They stand in the order of their numbers, in three
+-- parts: where the parts meet, the edition of 2025 has RTDS and ESDS.
 abbrev pub upToRTDP : List (ℕ × Text) → List (ℕ × Text)
 upToRTDP after =
     (Dirf, bytes "Dirf") ∷
