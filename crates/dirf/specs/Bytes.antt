@@ -29,11 +29,6 @@ unfoldable pub some : {A : Type 0} → (A → Bool) → List A → Bool
 some test [] = false
 some test (x ∷ xs) = test x || some test xs
 
--- the elements of a list of which a test holds
-unfoldable pub those : {A : Type 0} → (A → Bool) → List A → List A
-those test [] = []
-those test (x ∷ xs) = if test x then x ∷ those test xs else those test xs
-
 unfoldable pub isIn : ℕ → List ℕ → Bool
 isIn n ns = some (eqb n) ns
 
@@ -75,5 +70,5 @@ lookup other (e ∷ es) n = if eqb n (e .0) then e .1 else lookup other es n
 
 -- to compute with this file: `unfolding bytes-opens`
 unfoldable pub bytes-opens : Unit {0}
-unfolding every some those isIn same less isDigit isEmpty beginsWith endsWith lookup
+unfolding every some isIn same less isDigit isEmpty beginsWith endsWith lookup
 bytes-opens = tt

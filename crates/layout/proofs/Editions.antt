@@ -14,7 +14,7 @@ use Rattle.dirf.specs.Edition.{edition2025, edition2022, edition-opens}
 use Rattle.dirf.specs.Editions.{EditionName, of2025, of2022, editionNamed}
 use Rattle.dirf.proofs.tests.Bools.{if-cases}
 use Rattle.layout.specs.Tables.{holders, belowTable, nameIn, namesIn, isNamed, baseIn, nameTable, slotOf, concat, rowsIn}
-use Rattle.layout.specs.Tables.{countIn, rowIn}
+use Rattle.layout.specs.Tables.{those, countIn, rowIn}
 use Rattle.layout.specs.Tables.{byteIn, rowOf, formatOf, fillOf, needOf, holdsOf, recordOf, rowBytesOf, formatByte, fillByte}
 use Rattle.layout.specs.Tables.{needByte, holdsByte, rowTable, yes}
 use Rattle.layout.specs.LaidOut.{LaidOut, isKind}
@@ -26,7 +26,7 @@ unfolding byDeclarant
 each pf pj test f j d = if-cases (λ (t : Children). every test t ≡ true) (eqb d DECPF) (λ _. f) (λ _. j)
 
 pub laid-out : (n : EditionName) → LaidOut (editionNamed n)
-unfolding nameIn namesIn isNamed baseIn nameTable slotOf concat rowsIn countIn rowIn byteIn rowOf formatOf fillOf needOf holdsOf
+unfolding nameIn those namesIn isNamed baseIn nameTable slotOf concat rowsIn countIn rowIn byteIn rowOf formatOf fillOf needOf holdsOf
     recordOf rowBytesOf formatByte fillByte needByte holdsByte bytes-opens kinds-opens edition-opens editionNamed
 laid-out of2025 =
     record {

@@ -9,7 +9,7 @@ use lib.Dec.{eqb, ltb}
 use lib.ListN.{length, getD, drop}
 use lib.Seq.{getD-drop}
 use borrow.Author.Tests.{ltb-true, lt-ltb, le-ltb}
-use Rattle.dirf.specs.Bytes.{Text, every, some, those, same, isIn, lookup}
+use Rattle.dirf.specs.Bytes.{Text, every, some, same, isIn, lookup}
 use Rattle.dirf.specs.Row.{Row}
 use Rattle.dirf.specs.Edition.{Edition, kindIn, kindOf, nameOf, rowsOf, isBase}
 use Rattle.dirf.specs.Tree.{mayHold}
@@ -18,7 +18,7 @@ use Rattle.dirf.proofs.tests.Says.{below-or}
 use Rattle.dirf.proofs.tables.Tables.{in-table}
 use Rattle.fields.specs.Places.{mostFields}
 use Rattle.layout.specs.Tables.{kinds, holders, nameIn, namesIn, isNamed, baseIn, nameTable, rowBytes, recordBytes, rowIn}
-use Rattle.layout.specs.Tables.{rowsIn, countIn}
+use Rattle.layout.specs.Tables.{those, rowsIn, countIn}
 use Rattle.layout.specs.Tables.{byteIn, rowTable, recordOf, yes, yesIn, holdsIn, belowTable}
 use Rattle.layout.specs.LaidOut.{Say, SayBelow, isKind, LaidOut}
 use Rattle.layout.specs.Codes.{rowCodes, rowSaid}

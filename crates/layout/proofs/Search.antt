@@ -5,11 +5,11 @@ use mathlib.Core.Bool.{true, false}
 use mathlib.Core.List.{List, [], _∷_}
 use native.Mathlib.Omega.{arith}
 use lib.ListN.{length}
-use Rattle.dirf.specs.Bytes.{Text, those, same, isEmpty}
+use Rattle.dirf.specs.Bytes.{Text, same, isEmpty}
 use Rattle.dirf.specs.Edition.{kindIn}
 use Rattle.dirf.proofs.tests.Bools.{by-answer}
 use Rattle.dirf.proofs.tests.Says.{same-says}
-use Rattle.layout.specs.Tables.{tab, kinds, nameIn, namesIn, isNamed}
+use Rattle.layout.specs.Tables.{tab, kinds, nameIn, those, namesIn, isNamed}
 use Rattle.layout.proofs.Tab.{tab-on, tab-end}
 
 abbrev named : List ℕ → ℕ → ℕ × Text
