@@ -11,6 +11,7 @@
 #include "closers.h"
 #include "marks.h"
 #include "met.h"
+#include "places.h"
 #include "shrink.h"
 #include "sound.h"
 
@@ -66,13 +67,13 @@ static answer hold(uint8_t *file, size_t len)
     return a;
 }
 
-/* The same, and counts the file; one on which they differ shows nothing more. */
+/* The same, and counts the number, where it is one that both gave. */
 static answer hold_counted(uint8_t *file, size_t len, met *m)
 {
     unsigned long before = differences;
     answer a = hold(file, len);
     if (differences == before)
-        count_file(m, (part){file, len}, a.number, a.line);
+        m->number[a.number]++;
     return a;
 }
 
@@ -224,6 +225,22 @@ static unsigned hold_marks(met *m)
     return count;
 }
 
+/* Every kind behind every way in which records can be open, under each declarant of each edition. */
+static unsigned hold_places(met *m)
+{
+    static file_text file;
+    unsigned count = 0;
+    room = NO_LIMIT;
+    for (plain_edition edition = PLAIN_2025; edition <= PLAIN_2022; edition++)
+        for (unsigned declarant = DECPF; declarant <= DECPJ; declarant++)
+            for (unsigned place = 0; place < count_places(); place++)
+                for (unsigned kind = 1; kind <= KINDS; kind++, count++) {
+                    place_file(edition, declarant, place, kind, &file);
+                    hold_counted(file.bytes, file.len, m);
+                }
+    return count;
+}
+
 /* The empty file, every file of one byte, and those of two with a bar, CR or LF and any other byte. */
 static unsigned hold_tiny(met *m)
 {
@@ -251,6 +268,7 @@ static void hold_case(uint64_t seed, met *m)
     plan p = make_file(seed, &d, &file);
     room = chance(4) ? NO_LIMIT : chance(d.count + 2);
     answer a = hold_counted(file.bytes, file.len, m);
+    count_file(m, (part){file.bytes, file.len}, a.number, a.line);
     count_plan(m, &d, p, plain_edition_of(file.bytes, file.len), a.number);
     size_t from = chance((uint32_t)file.len + 1);
     hold_place(file.bytes + from, chance((uint32_t)(file.len - from) + 1) % 400);
@@ -270,7 +288,7 @@ int main(int argc, char **argv)
         hold_case(seed * UINT64_C(0x100000000) + i, &m);
     /* after a difference the rest says little more */
     if (differences == 0)
-        more = hold_long(&m, PLAIN_2025) + hold_long(&m, PLAIN_2022) + hold_edges(&m) + hold_marks(&m) + hold_tiny(&m);
+        more = hold_long(&m, PLAIN_2025) + hold_long(&m, PLAIN_2022) + hold_edges(&m) + hold_marks(&m) + hold_places(&m) + hold_tiny(&m);
     print_met("archive", cases + more, differences, &m);
     return differences != 0 || !all_met(&m, 21, NONE);
 }

@@ -44,6 +44,7 @@ static void check_case(fed *c, uint64_t seed, met *m)
     c->number = chance(4) ? 12000 + chance(4) : chance(4 * d.count + 8);
     take_file(c, &file);
     plain_answer a = plain_check_room(c->bytes, c->len, c->number / 4);
+    m->number[a.number]++;
     count_file(m, (part){c->bytes, c->len}, a.number, a.line);
     count_plan(m, &d, p, plain_edition_of(c->bytes, c->len), a.number);
 }

@@ -8,13 +8,15 @@
 
 enum { UNKNOWN = 9 };
 
-/* The kind that a line, counted from 1, is of in 2025. The lines before it are whole and it has a bar. */
+/* The kind that a line, counted from 1, is of in 2025; the lines before it are whole. */
 static uint32_t kind_in_line(part file, unsigned line)
 {
     size_t start, length;
     for (; line > 1; line--) {
-        size_t len = (size_t)((const uint8_t *)memchr(file.bytes, LF, file.len) - file.bytes) + 1;
-        file = (part){file.bytes + len, file.len - len};
+        const uint8_t *end = memchr(file.bytes, LF, file.len);
+        if (!end)
+            return NO_KIND;
+        file = (part){end + 1, file.len - (size_t)(end + 1 - file.bytes)};
     }
     plain_field(file.bytes, file.len, 1, &start, &length);
     return plain_kind_of(PLAIN_2025, (part){file.bytes + start, length});
@@ -23,7 +25,6 @@ static uint32_t kind_in_line(part file, unsigned line)
 void count_file(met *m, part file, unsigned number, unsigned line)
 {
     plain_edition edition = plain_edition_of(file.bytes, file.len);
-    m->number[number]++;
     m->files[edition]++;
     m->taken[edition] += number == 0;
     uint32_t kind = number == UNKNOWN && edition == PLAIN_2022 ? kind_in_line(file, line) : NO_KIND;

@@ -5,7 +5,8 @@
 #include "../plain/plain_inner.h"
 #include "cases.h"
 
-/* An edition is here the one that a file is judged by. */
+/* An edition is here the one that a file is judged by. But for the numbers only what comes from a seed is counted, so that the listed
+   files do not stand in for it. */
 typedef struct {
     unsigned long number[26];         /* answers by number */
     unsigned long alone[22];          /* a rule broken alone, answered with its own number */
@@ -19,7 +20,7 @@ typedef struct {
     unsigned long unwritten[KINDS + 1];                         /* 22 for a kind of 2025, told the older edition */
 } met;
 
-/* Counts a file and how it was answered. */
+/* Counts a file by its edition, with the number and the line of its answer. */
 void count_file(met *m, part file, unsigned number, unsigned line);
 
 /* Counts what the answer to a file of this edition shows of its plan. */
