@@ -1,4 +1,4 @@
-/* answers LINES short|long|scp accepted|refused
+/* answers LINES short|long|scp|older accepted|refused
    Prints the file's bytes and fails where a checker's answer is not the one expected, or the two differ, or the floor missed a line end. */
 #include <inttypes.h>
 #include <stdio.h>
@@ -10,39 +10,40 @@
 #include "calls.h"
 #include "input.h"
 
-typedef struct { uint32_t number, line, field; } answer;
+typedef struct { uint32_t number, line, field, edition; } answer;
 
 static answer of_plain(input in)
 {
     plain_answer a = plain_check_room(in.bytes, in.len, ROOM);
-    return (answer){a.number, a.line, a.field};
+    return (answer){a.number, a.line, a.field, plain_edition_of(in.bytes, in.len) == PLAIN_2025 ? 2025 : 2022};
 }
 
 static answer of_archive(input in)
 {
     return (answer){decklesail_check_number(in.bytes, in.len, ROOM), decklesail_check_line(in.bytes, in.len, ROOM),
-                    decklesail_check_field(in.bytes, in.len, ROOM)};
+                    decklesail_check_field(in.bytes, in.len, ROOM), decklesail_edition(in.bytes, in.len)};
 }
 
 static int same(answer a, answer b)
 {
-    return a.number == b.number && a.line == b.line && a.field == b.field;
+    return a.number == b.number && a.line == b.line && a.field == b.field && a.edition == b.edition;
 }
 
 static void show(const char *who, answer a)
 {
-    fprintf(stderr, "answers: %s: number %" PRIu32 ", line %" PRIu32 ", field %" PRIu32 "\n", who, a.number, a.line, a.field);
+    fprintf(stderr, "answers: %s: number %" PRIu32 ", line %" PRIu32 ", field %" PRIu32 ", edition %" PRIu32 "\n", who, a.number, a.line,
+            a.field, a.edition);
 }
 
 int main(int argc, char **argv)
 {
     if (argc < 4) {
-        fprintf(stderr, "answers LINES short|long|scp accepted|refused\n");
+        fprintf(stderr, "answers LINES short|long|scp|older accepted|refused\n");
         return 2;
     }
     input in = input_make(argv[1], argv[2], argv[3]);
     uint32_t lines = (uint32_t)strtoul(argv[1], NULL, 10), ends = count_line_ends(in.bytes, in.len);
-    answer expected = {strcmp(argv[3], "refused") == 0 ? 8 : 0, lines, 0};
+    answer expected = {strcmp(argv[3], "refused") == 0 ? 8 : 0, lines, 0, strcmp(argv[2], "older") == 0 ? 2022 : 2025};
     answer plain = of_plain(in), archive = of_archive(in);
     printf("%zu\n", in.len);
     if (same(plain, expected) && same(archive, expected) && ends == lines)

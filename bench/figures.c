@@ -5,7 +5,9 @@
 #include <stdlib.h>
 #include <string.h>
 
-const char *const input_names[INPUTS] = {"short accepted", "short refused", "long accepted", "long refused", "scp accepted", "scp refused"};
+const char *const input_names[INPUTS] = {
+    "short accepted", "short refused", "long accepted", "long refused", "scp accepted", "scp refused", "older accepted", "older refused",
+};
 const char *const which_names[WHICHES] = {"nothing", "floor", "plain", "archive"};
 const unsigned size_lines[SIZES] = {600, 6000, 60000};
 static const char *const measure_names[MEASURES] = {"instructions", "nanoseconds", "stack", "bytes"};

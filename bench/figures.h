@@ -8,8 +8,8 @@
 enum measure { INSTRUCTIONS, NANOSECONDS, STACK, BYTES, MEASURES };
 enum which { NOTHING, FLOOR, PLAIN, ARCHIVE, WHICHES };
 enum size { SIZE_600, SIZE_6000, SIZE_60000, SIZES };
-/* short, long and scp, each accepted and refused */
-enum { INPUTS = 6 };
+/* short, long, scp and older, each accepted and refused */
+enum { INPUTS = 8 };
 
 typedef struct { uint64_t value[MEASURES][INPUTS][SIZES][WHICHES]; } figures;
 

@@ -12,8 +12,8 @@ enum { HEAD_LINES = 4, LEAST_LINES = 5, MOST_LINES = 65536 };
 enum { LONGEST = 256 };
 enum { MONTHS = 13, AMOUNT_DIGITS = 13 };
 
-/* lines 1 and 2; the declarant and the first block follow */
-static const char opening[] = "Dirf|2025|2024|N||R6GP3ZA|\r\nRESPO|11144477735|ANA LIMA|11|33334444||||\r\n";
+/* line 2; the declarant and the first block follow */
+static const char responsible[] = "RESPO|11144477735|ANA LIMA|11|33334444||||\r\n";
 
 /* 60 bytes, the most that a name may have */
 static const char long_name[] = "MARIA APARECIDA DOS SANTOS ALBUQUERQUE DE OLIVEIRA E BARROSO";
@@ -120,17 +120,20 @@ static void put_scp(input *in, unsigned i)
     put(in, "|ANA||\r\n");
 }
 
-/* The line that opens each shape's block, and its line number i after that. */
+/* The edition of each shape, the line that opens its block, and its line number i after that. */
 typedef struct {
-    const char *name, *block;
+    const char *name;
+    plain_edition edition;
+    const char *block;
     int has_scp;
     void (*put_line)(input *in, unsigned i);
 } shape;
 
 static const shape shapes[] = {
-    {"short", "IDREC|0561|\r\n", 0, put_short},
-    {"long", "IDREC|0561|\r\n", 0, put_long},
-    {"scp", "SCP|11222333000181|SCP SERRA|\r\n", 1, put_scp},
+    {"short", PLAIN_2025, "IDREC|0561|\r\n", 0, put_short},
+    {"long", PLAIN_2025, "IDREC|0561|\r\n", 0, put_long},
+    {"scp", PLAIN_2025, "SCP|11222333000181|SCP SERRA|\r\n", 1, put_scp},
+    {"older", PLAIN_2022, "IDREC|0561|\r\n", 0, put_short},
 };
 
 static const shape *shape_named(const char *name)
@@ -159,7 +162,8 @@ input input_make(const char *lines, const char *shape_name, const char *end)
     input in = {malloc(count * LONGEST), 0};
     if (in.bytes == NULL)
         stop("no memory");
-    put(&in, opening);
+    put(&in, line_one(made->edition));
+    put(&in, responsible);
     in.len += make_declarant(1, made->has_scp, (char *)in.bytes + in.len);
     put(&in, made->block);
     for (unsigned i = 0; i < count - HEAD_LINES - 1; i++)

@@ -1,4 +1,4 @@
-/* measure WHICH LINES short|long|scp accepted|refused [timed]
+/* measure WHICH LINES short|long|scp|older accepted|refused [timed]
    Makes the file, makes the one call and prints what it answered. Timed, it makes the call five times and prints the nanoseconds of
    the quickest as well; untimed it does the same on every run, so that its instructions can be counted. */
 #define _POSIX_C_SOURCE 199309L
@@ -35,7 +35,7 @@ static int64_t quickest(call chosen, input in)
 int main(int argc, char **argv)
 {
     if (argc < 5) {
-        fprintf(stderr, "measure WHICH LINES short|long|scp accepted|refused [timed]\n");
+        fprintf(stderr, "measure WHICH LINES short|long|scp|older accepted|refused [timed]\n");
         return 2;
     }
     call chosen = call_named(argv[1]);

@@ -5,7 +5,7 @@
 
 #include "targets.h"
 
-enum { WIDTH = 1240, HEIGHT = 700, LEFT = 80, RIGHT = 1220, PLOT = 190, BARS = 3, STEPS = 4 };
+enum { WIDTH = 1620, HEIGHT = 700, LEFT = 80, RIGHT = 1600, PLOT = 190, BARS = 3, STEPS = 4 };
 enum { BAR_WIDTH = 46, BAR_STEP = 52 };
 
 /* One chart: three bars for each input, with what to call them. */
@@ -130,7 +130,7 @@ void picture_print(const figures *f, FILE *to)
     fprintf(to, "<svg xmlns=\"http://www.w3.org/2000/svg\" width=\"%d\" height=\"%d\" viewBox=\"0 0 %d %d\"", WIDTH, HEIGHT, WIDTH, HEIGHT);
     fprintf(to, " font-family=\"sans-serif\" font-size=\"12\">\n");
     fprintf(to, "<rect width=\"%d\" height=\"%d\" fill=\"#fff\"/>\n", WIDTH, HEIGHT);
-    text(to, LEFT, 32, "font-size=\"18\" font-weight=\"bold\"", "Decklesail: instructions per line of the Dirf 2025 check");
+    text(to, LEFT, 32, "font-size=\"18\" font-weight=\"bold\"", "Decklesail: instructions per line of the Dirf check");
     draw_calls(f, to);
     draw_sizes(f, to);
     fprintf(to, "</svg>\n");

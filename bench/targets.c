@@ -3,8 +3,8 @@
 
 #include <inttypes.h>
 
-/* in the order of the inputs: short, long, scp */
-const double most_ratio[INPUTS] = {1.2, 1.2, 1.0, 1.0, 1.35, 1.35}, most_growth = 1.05;
+/* in the order of the inputs: short, long, scp, older */
+const double most_ratio[INPUTS] = {1.2, 1.2, 1.0, 1.0, 1.35, 1.35, 1.2, 1.2}, most_growth = 1.05;
 static const uint64_t most_stack = 16384;
 static const double aimed_seconds = 1.2;
 

@@ -1,4 +1,4 @@
-/* decklesail.h: the Dirf 2025 check, the field reader's place and the amount reader, for C.
+/* decklesail.h: the Dirf check, by the editions of 2025 and 2022, the field reader's place and the amount reader, for C.
  *
  * Build: `rt staticlib suite` writes target/staticlib/libsuite.a. The archive is for x86-64 and needs memcpy and memset
  * (any C library has them). It needs nothing else, keeps no state between calls, allocates nothing and starts no thread, so
@@ -9,7 +9,7 @@
  *   - bytes that nobody writes while the call runs.
  * Nothing else is asked: every content and every length is answered, and no call writes to the bytes. Each function is proved
  * to give, for all bytes and numbers, what the scope document's definitions give (crates/suite/src/lib.rt has each contract).
- * What a C caller passes is checked by nothing. A check takes less than 16 kilobytes of stack (15,968 bytes were
+ * What a C caller passes is checked by nothing. A check takes less than 16 kilobytes of stack (15,024 bytes were
  * measured, docs/BENCH.md).
  *
  * Each call answers one number of the answer. For several numbers of one answer make several calls with the same arguments.
@@ -24,8 +24,14 @@
 extern "C" {
 #endif
 
-/* The check of a file, with room for so many entries of the record table. No table is written; the answer is that of the check
- * with a table of `room` entries. A caller who wants no limit passes 65536, the most lines that a file may have, or more.
+/* The edition by which a file is judged: 2025 or 2022. Line 1 says it: 2022 where its field 6 is XJFSFHB, byte for byte and ended by its
+ * bar, and 2025 where field 6 is anything else or there is none. Line 1 is here all bytes before the first CR LF, or all that there are,
+ * however many; its record may be any, right or wrong. By the edition of 2022, fields 2 and 3 of line 1 are 2022 and 2021 or 2022, and
+ * RTDS and ESDS are unknown identifiers; nothing else differs. */
+uint32_t decklesail_edition(const uint8_t *file, size_t file_len);
+
+/* The check of a file by its own edition, with room for so many entries of the record table. No table is written; the answer is that of
+ * the check with a table of `room` entries. A caller who wants no limit passes 65536, the most lines that a file may have, or more.
  *
  * The number: 0 for an accepted file, else that of the first breach, tried line by line and for each line in this order:
  *

@@ -47,7 +47,7 @@ unsigned close_file(file_text *file, unsigned lines)
     unsigned more = 0;
     make_declarant(0, 0, declarant);
     if (lines < 1)
-        more += put_line(file, "Dirf|2025|2024|N||R6GP3ZA|\r\n");
+        more += put_line(file, line_one(chance(2) ? PLAIN_2025 : PLAIN_2022));
     if (lines < 2)
         more += put_line(file, "RESPO|11144477735|ANA LIMA|11|33334444||||\r\n");
     if (lines < 3)

@@ -8,7 +8,7 @@
 void cut_at_line(file_text *file);
 
 /* Puts the lines behind it that close a file of so many whole lines, with the SCP that its declarant's flag asks for: at most four.
-   Gives how many. */
+   Line 1 says the edition, and all that may follow it here is the same in both; with no line yet it is that of either. Gives how many. */
 unsigned close_file(file_text *file, unsigned lines);
 
 /* Puts a tail of whole lines, of broken ones or of any bytes behind it. */

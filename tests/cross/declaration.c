@@ -2,6 +2,16 @@
 
 #include <string.h>
 
+unsigned year_of(plain_edition edition)
+{
+    return edition == PLAIN_2025 ? 2025 : 2022;
+}
+
+plain_edition other_than(plain_edition edition)
+{
+    return edition == PLAIN_2025 ? PLAIN_2022 : PLAIN_2025;
+}
+
 int find_field(const text_line *line, unsigned f, unsigned *start, unsigned *len)
 {
     unsigned begin = 0;
@@ -26,6 +36,16 @@ void set_field(text_line *line, unsigned f, const void *contents, unsigned len)
     memmove(line->bytes + start + len, line->bytes + start + old, line->len - start - old);
     memcpy(line->bytes + start, contents, len);
     line->len = line->len - old + len;
+}
+
+void put_in(text_line *line, unsigned at, const char *bytes)
+{
+    unsigned len = (unsigned)strlen(bytes);
+    if (line->len + len > MOST_BYTES)
+        return;
+    memmove(line->bytes + at + len, line->bytes + at, line->len - at);
+    memcpy(line->bytes + at, bytes, len);
+    line->len += len;
 }
 
 void set_end(text_line *line, const char *end)

@@ -27,7 +27,7 @@ static int after_the_end(declaration *d)
     text_line *line = insert_line(d, d->count);
     if (!line)
         return 0;
-    sound_line(line, 1 + chance(FIMDIRF));
+    sound_line(line, d->edition, 1 + chance(FIMDIRF));
     if (chance(2))
         line->len = chance(2);
     set_end(line, chance(2) ? "\r\n" : chance(2) ? "\n" : "");
@@ -83,10 +83,29 @@ static int no_last_bar(declaration *d)
     return 1;
 }
 
+/* 9 of the older edition: a record that it lacks, put in before a line or in its place. In the place of line 1 the mark stays, and with it
+   the edition; put in before it, the record is misplaced in a file of 2025. */
+static int lacked(declaration *d)
+{
+    unsigned kind = chance(2) ? RTDS : ESDS, at = chance(4) ? chance(d->count) : 0;
+    text_line *line = chance(2) ? insert_line(d, at) : NULL;
+    if (line) {
+        sound_line(line, PLAIN_2025, kind);
+        return 1;
+    }
+    line = &d->line[at];
+    line->edition = PLAIN_2025;
+    line->kind = kind;
+    set_field(line, 1, plain_name(kind), (unsigned)strlen(plain_name(kind)));
+    return 1;
+}
+
 /* 9: another identifier; the three misprints of the layout among them. */
 static int unknown(declaration *d)
 {
     static const char *const others[] = {"BPFRRRA", "BPFICI", "QTMESSES", "DIRF", "FIMDIRF", "", " IDREC", "R", "RTRTR"};
+    if (d->edition == PLAIN_2022 && chance(2))
+        return lacked(d);
     text_line *line = any_line(d);
     if (chance(2)) {
         const char *other = others[chance(9)];
@@ -103,9 +122,9 @@ static int left_for_later(declaration *d)
     unsigned kind, at = chance(d->count);
     do
         kind = 1 + chance(KINDS);
-    while (plain_is_base(kind));
+    while (plain_records[kind].role != LATER);
     if (chance(2) && insert_line(d, at))
-        sound_line(&d->line[at], BPFSCP);
+        sound_line(&d->line[at], d->edition, BPFSCP);
     set_field(&d->line[at], 1, plain_name(kind), (unsigned)strlen(plain_name(kind)));
     return 1;
 }
@@ -114,7 +133,7 @@ static int left_for_later(declaration *d)
 static int wrong_count(declaration *d)
 {
     text_line *line = any_line(d);
-    unsigned start, len, f = 1 + chance(plain_fields(line->kind));
+    unsigned start, len, f = 1 + chance(plain_fields(line->edition, line->kind));
     if (!find_field(line, f, &start, &len))
         return 0;
     if (chance(2))
@@ -140,10 +159,10 @@ static int misplaced(declaration *d)
     }
     do
         kind = 1 + chance(KINDS);
-    while (!plain_is_base(kind));
+    while (!plain_is_base(d->edition, kind));
     if (!insert_line(d, at))
         return 0;
-    sound_line(&d->line[at], kind);
+    sound_line(&d->line[at], d->edition, kind);
     return 1;
 }
 
@@ -225,11 +244,11 @@ static int break_field(declaration *d, unsigned number)
     uint8_t text[256];
     for (unsigned tries = 0; tries < 100; tries++) {
         text_line *line = any_line(d);
-        unsigned count = plain_fields(line->kind);
+        unsigned count = plain_fields(line->edition, line->kind);
         if (count < 2)
             continue;
         unsigned f = 2 + chance(count - 1);
-        plain_row row = plain_field_row(line->kind, f);
+        plain_row row = plain_field_row(line->edition, line->kind, f);
         if (!in_field[number].wanted(&row))
             continue;
         set_field(line, f, text, in_field[number].other(&row, text));

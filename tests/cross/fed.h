@@ -5,18 +5,22 @@
 #include <stdint.h>
 #include <stdio.h>
 
-#include "cases.h"
+#include "met.h"
 
 enum { MOST_TABLE = 12003, MOST_ROOM = 4096, MOST_STRING = 65536, MOST_LENGTHS = 32 };
 
 /* One case. `judged` is how many of its bytes the demanded answer is worked out from: all, or the part that a tail follows. */
 typedef struct {
     char letter;
+    plain_edition edition;      /* that the line writer is told, by `E`; `W` is that of 2025 */
     uint64_t number, room;
     size_t len, judged, count;
     uint64_t lengths[MOST_LENGTHS];
     uint8_t bytes[MOST_FILE];
 } fed;
+
+/* Whether it is a case of the line writer. */
+int is_line(const fed *c);
 
 /* Makes the case of this seed; counts what it meets. */
 void make_fed(uint64_t seed, fed *c, met *m);

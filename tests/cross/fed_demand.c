@@ -15,16 +15,23 @@ static void put_string(FILE *out, const fed *c)
     fwrite(c->bytes, 1, c->len, out);
 }
 
+int is_line(const fed *c)
+{
+    return c->letter == 'W' || c->letter == 'E';
+}
+
 void write_fed(FILE *out, const fed *c)
 {
     fputc(c->letter, out);
-    if (strchr("CWFam", c->letter))
+    if (c->letter == 'E')
+        put_number(out, year_of(c->edition));
+    if (strchr("CWEFam", c->letter))
         put_number(out, c->number);
-    if (strchr("Wam", c->letter))
+    if (strchr("WEam", c->letter))
         put_number(out, c->room);
-    if (strchr("CWFAM", c->letter))
+    if (strchr("CWEFAM", c->letter))
         put_string(out, c);
-    if (c->letter != 'W')
+    if (!is_line(c))
         return;
     put_number(out, c->count);
     for (size_t i = 0; i < c->count; i++)
@@ -56,13 +63,13 @@ static unsigned demand_written(FILE *out, const fed *c)
     plain_written w;
     for (size_t i = 0; i < c->count; i++)
         lengths[i] = c->lengths[i];
-    if (c->letter == 'W')
-        w = plain_write_line((uint32_t)c->number, c->bytes, c->len, lengths, c->count, written, c->room);
+    if (is_line(c))
+        w = plain_write_line(c->edition, (uint32_t)c->number, c->bytes, c->len, lengths, c->count, written, c->room);
     else if (c->letter == 'a')
         w = plain_write_amount(c->number, written, c->room);
     else
         w = plain_write_months(c->number, written, c->room);
-    if (c->letter == 'W')
+    if (is_line(c))
         fprintf(out, "%u %u %zu 1", w.number, w.field, w.count);
     else
         fprintf(out, "%u %zu 1", w.number, w.count);

@@ -1,6 +1,5 @@
 #include <string.h>
 
-#include "../plain/plain_inner.h"
 #include "chance.h"
 #include "closers.h"
 #include "faults.h"
@@ -27,8 +26,9 @@ static void cut_case(fed *c, file_text *file, met *m)
     if (a.number > 1 && judged < c->len)
         c->judged = judged;
     c->number = 12000 + chance(4);
-    m->closed += a.number == 1;
-    m->fixed += a.number > 1;
+    if (a.number == 1)
+        count_closed(m, (part){c->bytes, c->len}, a.line - 1);
+    m->fixed[plain_edition_of(c->bytes, c->judged)] += a.number > 1;
 }
 
 static void check_case(fed *c, uint64_t seed, met *m)
@@ -43,7 +43,10 @@ static void check_case(fed *c, uint64_t seed, met *m)
     }
     c->number = chance(4) ? 12000 + chance(4) : chance(4 * d.count + 8);
     take_file(c, &file);
-    count_case(m, &d, p, plain_check_room(c->bytes, c->len, c->number / 4).number);
+    plain_answer a = plain_check_room(c->bytes, c->len, c->number / 4);
+    m->number[a.number]++;
+    count_file(m, (part){c->bytes, c->len}, a.number, a.line);
+    count_plan(m, &d, p, plain_edition_of(c->bytes, c->len), a.number);
 }
 
 /* The fields of a line as the writer takes them: contents one after another, and lengths. */
@@ -83,16 +86,28 @@ static void damage_contents(fed *c)
     }
 }
 
+/* A line of any kind by the writer's edition, by that of 2025 where it lacks the kind. */
+static void any_kind(text_line *line, plain_edition edition)
+{
+    unsigned kind;
+    do
+        kind = 1 + chance(KINDS);
+    while (!plain_is_base(PLAIN_2025, kind));
+    sound_line(line, plain_is_base(edition, kind) ? edition : PLAIN_2025, kind);
+}
+
+/* Now and then the writer is told the other edition than that of the line. */
 static void write_case(fed *c)
 {
     static declaration d;
-    c->letter = 'W';
     sound_declaration(&d);
+    c->letter = chance(3) ? 'E' : 'W';
+    c->edition = c->letter == 'W' ? PLAIN_2025 : chance(8) ? d.edition : other_than(d.edition);
     for (unsigned left = chance(3); left > 0; left--)
         break_rule(&d, 11 + chance(11));
     text_line *line = &d.line[chance(d.count)];
-    if (chance(4) == 0 && plain_is_base(c->number = 1 + chance(KINDS)))
-        sound_line(line, (unsigned)c->number);
+    if (chance(2))
+        any_kind(line, c->edition);
     c->number = line->kind;
     memset(c->lengths, 0, sizeof c->lengths);
     contents_of(c, line);

@@ -85,14 +85,23 @@ static void report(uint64_t seed)
     size_t len = now.len;
     memcpy(bytes, now.bytes, len);
     /* a line's contents and their lengths, and a file and its tail, belong together: these are shown as they are */
-    if (now.letter != 'W' && now.judged == now.len) {
+    if (!is_line(&now) && now.judged == now.len) {
         shrink(bytes, &len, differs);
         differs(bytes, len);
     }
-    printf("case %llu, %c %llu %llu: replay prints\n%sbut the plain checker demands\n%sof these bytes:\n", (unsigned long long)seed, now.letter,
-        (unsigned long long)now.number, (unsigned long long)now.room, got, want);
+    printf("case %llu, %c %u %llu %llu: replay prints\n%sbut the plain checker demands\n%sof these bytes:\n", (unsigned long long)seed,
+        now.letter, year_of(now.edition), (unsigned long long)now.number, (unsigned long long)now.room, got, want);
     show(stdout, bytes, len);
     differences++;
+}
+
+/* What the line writer did with a kind, told the edition: 22 for a kind that 2025 has means that the older one lacks it. */
+static void count_line(met *m, unsigned number)
+{
+    if (now.letter != 'E' || now.number > KINDS)
+        return;
+    m->written[now.edition][now.number] += number == 0;
+    m->unwritten[now.number] += number == 22 && plain_is_base(PLAIN_2025, (unsigned)now.number);
 }
 
 static void run_batch(uint64_t seed, unsigned long count, met *m)
@@ -103,6 +112,7 @@ static void run_batch(uint64_t seed, unsigned long count, met *m)
         write_fed(cases, &now);
         unsigned number = demand_line(demanded, &now);
         m->number[number] += now.letter != 'C';
+        count_line(m, number);
     }
     fclose(cases);
     fclose(demanded);
@@ -125,5 +135,6 @@ int main(int argc, char **argv)
     for (unsigned long i = 0; i < cases && differences == 0; i += BATCH)
         run_batch(seed + i, cases - i < BATCH ? cases - i : BATCH, &m);
     print_met("replay", cases, differences, &m);
-    return differences != 0 || !all_met(&m, 24, 3);
+    print_lines("replay", &m);
+    return differences != 0 || !(all_met(&m, 24, 3) & lines_met(&m));
 }

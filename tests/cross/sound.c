@@ -93,12 +93,13 @@ unsigned sound_field(const plain_row *row, uint8_t *out)
     return row->format == 'N' ? some_digits(size, out) : some_text(size, out);
 }
 
-void sound_line(text_line *line, unsigned kind)
+void sound_line(text_line *line, plain_edition edition, unsigned kind)
 {
+    line->edition = edition;
     line->kind = kind;
     line->len = 0;
-    for (unsigned f = 1; f <= plain_fields(kind); f++) {
-        plain_row row = plain_field_row(kind, f);
+    for (unsigned f = 1; f <= plain_fields(edition, kind); f++) {
+        plain_row row = plain_field_row(edition, kind, f);
         line->len += sound_field(&row, line->bytes + line->len);
         line->bytes[line->len++] = '|';
     }
@@ -108,7 +109,7 @@ void sound_line(text_line *line, unsigned kind)
 static text_line *add(declaration *d, unsigned kind)
 {
     text_line *line = &d->line[d->count++];
-    sound_line(line, kind);
+    sound_line(line, d->edition, kind);
     return line;
 }
 
@@ -137,7 +138,7 @@ static void values(declaration *d, unsigned beneficiary)
     /* KINDS is prime, so every step comes past every kind once */
     for (unsigned i = 0; i < KINDS && left > 0 && d->count < ENOUGH; i++) {
         kind = (kind + step) % KINDS;
-        if (!plain_below(d->declarant, beneficiary, kind + 1))
+        if (!plain_below(d->edition, d->declarant, beneficiary, kind + 1))
             continue;
         add(d, kind + 1);
         left--;
@@ -148,7 +149,7 @@ static void people(declaration *d, unsigned kind)
 {
     uint64_t key = chance(2) ? 0 : chance(1000000);
     for (unsigned left = few(d); left > 0; left--) {
-        rising_key(add(d, kind), plain_field_row(kind, 2).size, &key);
+        rising_key(add(d, kind), plain_field_row(d->edition, kind, 2).size, &key);
         values(d, kind);
     }
 }
@@ -229,6 +230,7 @@ static void keep_flags(declaration *d, text_line *declarant)
 void sound_declaration(declaration *d)
 {
     d->count = 0;
+    d->edition = chance(2) ? PLAIN_2025 : PLAIN_2022;
     d->declarant = chance(2) ? DECPF : DECPJ;
     add(d, DIRF);
     add(d, RESPO);

@@ -10,10 +10,10 @@ unsigned sound_field(const plain_row *row, uint8_t *out);
 /* So many digits, the first no zero. */
 unsigned sound_digits(unsigned count, uint8_t *out);
 
-/* A line of a base kind with sound contents. */
-void sound_line(text_line *line, unsigned kind);
+/* A line of one of the edition's base kinds with sound contents. */
+void sound_line(text_line *line, plain_edition edition, unsigned kind);
 
-/* An accepted declaration of some three to seventy lines. */
+/* An accepted declaration of some three to seventy lines, of either edition. */
 void sound_declaration(declaration *d);
 
 #endif

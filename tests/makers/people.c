@@ -45,6 +45,11 @@ void make_identity(unsigned size, uint64_t serial, char *out)
         make_cnpj(serial, out);
 }
 
+const char *line_one(plain_edition edition)
+{
+    return edition == PLAIN_2025 ? "Dirf|2025|2024|N||R6GP3ZA|\r\n" : "Dirf|2022|2021|N||XJFSFHB|\r\n";
+}
+
 size_t make_declarant(int company, int has_scp, char *out)
 {
     /* PSE is left for later, so that no file has it */

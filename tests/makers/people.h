@@ -1,4 +1,5 @@
-/* Makers for the files of the suites: a CPF or a CNPJ of a serial number, and a declarant's line whose flags follow from its blocks.
+/* Makers for the files of the suites: a CPF or a CNPJ of a serial number, line 1 of each edition, and a declarant's line whose flags
+   follow from its blocks.
    What they make is right: check digits by modulo 11, which are worked out here and in tools/makers.py and nowhere else, and each flag S
    exactly when its block is there. Greater serial numbers give greater CPFs and CNPJs. */
 #ifndef PEOPLE_H
@@ -6,6 +7,8 @@
 
 #include <stddef.h>
 #include <stdint.h>
+
+#include "../plain/plain.h"
 
 enum { CPF_SIZE = 11, CNPJ_SIZE = 14 };
 
@@ -18,6 +21,9 @@ void make_cnpj(uint64_t serial, char *out);
 
 /* A CPF or a CNPJ, by its size. */
 void make_identity(unsigned size, uint64_t serial, char *out);
+
+/* Line 1 of a file of this edition, with its CR LF; the two are of one length. */
+const char *line_one(plain_edition edition);
 
 /* The line of a declarant, with its CR LF, and a NUL behind it: DECPJ where it is a company, else DECPF. Gives its bytes, at most 80. */
 size_t make_declarant(int company, int has_scp, char *out);

@@ -58,10 +58,10 @@ static void print_declaration(uint64_t seed)
 
 static void print_files(unsigned long count)
 {
-    static const char *const shapes[] = {"short", "long", "scp"};
+    static const char *const shapes[] = {"short", "long", "scp", "older"};
     for (unsigned long i = 0; i < count; i++)
         print_declaration(i);
-    for (unsigned i = 0; i < 3; i++) {
+    for (unsigned i = 0; i < sizeof shapes / sizeof *shapes; i++) {
         input in = input_make("6000", shapes[i], "accepted");
         print_file(in.bytes, in.len);
     }
