@@ -20,7 +20,7 @@ use Rattle.fields.specs.Places.{mostFields}
 use Rattle.layout.specs.Tables.{kinds, holders, nameIn, namesIn, isNamed, baseIn, nameTable, rowBytes, recordBytes, rowIn}
 use Rattle.layout.specs.Tables.{those, rowsIn, countIn}
 use Rattle.layout.specs.Tables.{byteIn, rowTable, recordOf, yes, yesIn, holdsIn, belowTable}
-use Rattle.layout.specs.LaidOut.{Say, SayBelow, isKind, LaidOut}
+use Rattle.layout.specs.LaidOut.{Say, SayRows, SayBelow, isKind, LaidOut}
 use Rattle.layout.specs.Codes.{rowCodes, rowSaid}
 use Rattle.layout.proofs.Past.{by-kind, every-first, every-rest, some-past, isIn-past, lookup-past, rows-past}
 use Rattle.layout.proofs.Tab.{tab-at, tab-length, tab-same, tab-each, tab2-at, concat-drop}
@@ -68,6 +68,7 @@ module _ {e : Edition} {names rows : List ℕ} (say : Say e names rows) where
   pub kind-small : (s : Text) → kindOf e s < kinds
   kind-small s = subst (λ k. k < kinds) (say .kind s) (kind-bound names s)
 
+module _ {e : Edition} {rows : List ℕ} (say : SayRows e rows) where
   pub count-is : (k : ℕ) → countIn rows k ≡ length (rowsOf e k)
   count-is k = sym (rows-length rows k) ∙ ap length (say .fields k)
 
@@ -125,6 +126,9 @@ module _ (e : Edition) (l : LaidOut e) where
   unfolding nameIn baseIn isBase
   no-base t k h = rw (le-ltb k kinds h, some-past kinds k h (λ n. n .0) (e .names) (l .named-kinds))
 
+  pub says-rows : SayRows e (rowTable e)
+  says-rows = record { fields = λ k. by-kind k (rows-there k) (no-rows (rowTable e) k) }
+
   pub says : Say e (nameTable e) (rowTable e)
   unfolding kindOf
   says =
@@ -132,7 +136,7 @@ module _ (e : Edition) (l : LaidOut e) where
         kind = λ s. ap (λ ns. kindIn ns s) (l .names);
         name = λ k. by-kind k (tab-each (nameIn (nameTable e)) (nameOf e) kinds (l .name) k) (no-name (nameTable e) k);
         base = λ k. by-kind k (tab-each (baseIn (nameTable e)) (isBase e) kinds (l .base) k) (no-base (nameTable e) k);
-        fields = λ k. by-kind k (rows-there k) (no-rows (rowTable e) k);
+        all-rows = says-rows;
       }
 
   module _ (d h k : ℕ) where

@@ -10,12 +10,16 @@ use Rattle.dirf.specs.Edition.{Edition, kindIn, kindOf, nameOf, rowsOf, isBase}
 use Rattle.dirf.specs.Tree.{mayHold}
 use Rattle.layout.specs.Tables.{tab, kinds, holders, nameIn, namesIn, baseIn, nameTable, recordBytes, recordOf, rowsIn, holdsIn}
 
--- lent tables say an edition: whoever reads them reads what the edition has
+-- a lent table says an edition: whoever reads it reads what the edition has
+pub record SayRows (e : Edition) (rows : List ℕ) : Type 0 where
+  pub fields : (k : ℕ) → rowsIn rows k ≡ rowsOf e k
+
+-- the tables of identifiers and of rows
 pub record Say (e : Edition) (names rows : List ℕ) : Type 0 where
   pub kind : (s : Text) → kindIn (namesIn names) s ≡ kindOf e s
   pub name : (k : ℕ) → nameIn names k ≡ nameOf e k
   pub base : (k : ℕ) → baseIn names k ≡ isBase e k
-  pub fields : (k : ℕ) → rowsIn rows k ≡ rowsOf e k
+  pub all-rows : SayRows e rows
 
 -- and what may stand below what under a declarant of kind d
 abbrev pub SayBelow : Edition → ℕ → List (List ℕ) → Type 0

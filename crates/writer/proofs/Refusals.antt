@@ -48,7 +48,7 @@ module _ {e : Edition} {names rows : List ℕ} (say : Say e names rows) (k : ℕ
   later-finds counted added =
       let w = writing e k text ns room in
       rw (
-        along-cells text small ns added (omega (arith, few-rows say k)),
+        along-cells text small ns added (omega (arith, few-rows (say .all-rows) k)),
         ← line-length ns text added,
         first-append (over (λ w. w .contents) contents) (gives 24 0 outputTooSmall ∷ []) w,
         first-over (λ w. w .contents) contents w,
@@ -59,6 +59,6 @@ module _ {e : Edition} {names rows : List ℕ} (say : Say e names rows) (k : ℕ
   unfolding misfitOf contentsAlong refusalOf first ask over askedOf writerOrder writing contentsOf
       noBaseKind wrongNumberOfFields lengthsDoNotAddUp
   by-tables =
-      rw (say .base k, count-is say k, say .name k, say .fields k, cut-length ns text)
+      rw (say .base k, count-is (say .all-rows) k, say .name k, say .all-rows .fields k, cut-length ns text)
       (three (isBase e k) (eqb (length ns) (length (rowsOf e k))) (eqb (sum ns) (length text)) _ _
       (λ c a. later-finds (eqb-true (length ns) (length (rowsOf e k)) c) (eqb-true (sum ns) (length text) a)))

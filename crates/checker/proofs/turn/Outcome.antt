@@ -190,16 +190,16 @@ module _ {e : Edition} {below : List (List ℕ)} {file : Text} {st : State} {pas
     few-fields : fillRule e before ln ≡ keeps → length (fields ln) ≤ mostFields
     few-fields q =
         let n = eqb-true (length (fields ln)) (length (rowsOf e kd)) (not-false _ (given-false 11 0 _ (or-else-left _ _ q))) in
-        omega (arith, few-rows say kd, n)
+        omega (arith, few-rows (say .all-rows) kd, n)
 
     fill-is : filledFound names rows ln (placesOf ln) kd ≡ fillRule e before ln
     unfolding filledFound orElse given
     fill-is =
         ap (λ n. orElse (given 11 0 (not (eqb n (countIn rows kd))))
         (contentsFound kd (nameIn names kd) (rowsIn rows kd) (cellsAt ln (placesOf ln)))) (places-count ln)
-        ∙ rw (count-is say kd, say .name kd, say .fields kd)
+        ∙ rw (count-is (say .all-rows) kd, say .name kd, say .all-rows .fields kd)
         (by-answer (eqb (length (fields ln)) (length (rowsOf e kd)))
-        (λ t. rw (places-cells ln (omega (arith, few-rows say kd, eqb-true (length (fields ln)) (length (rowsOf e kd)) t))))
+        (λ t. rw (places-cells ln (omega (arith, few-rows (say .all-rows) kd, eqb-true (length (fields ln)) (length (rowsOf e kd)) t))))
         (λ t. rw t))
 
     -- a whole line
