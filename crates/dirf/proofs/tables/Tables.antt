@@ -5,9 +5,9 @@ use mathlib.Core.Bool.{Bool, true}
 use mathlib.Core.List.{List, [], _∷_}
 use lib.Dec.{eqb}
 use borrow.Author.Tests.{eqb-true}
-use Rattle.dirf.specs.Bytes.{every, isIn, lookup}
+use Rattle.dirf.specs.Bytes.{Text, every, isIn, lookup, same}
 use Rattle.dirf.specs.Row.{Row}
-use Rattle.dirf.specs.Edition.{rowsIn}
+use Rattle.dirf.specs.Edition.{rowsIn, kindIn}
 use Rattle.dirf.proofs.tests.Bools.{and-left, and-right, if-cases}
 
 -- what holds of the rows of each group, and of no rows, holds of the rows of every kind
@@ -28,3 +28,12 @@ in-table test none past (r ∷ t) e h =
     if-cases (λ x. test h x ≡ true) (eqb h (r .0))
     (λ q. ap (λ x. test x (r .1)) (eqb-true h (r .0) q) ∙ and-left (test (r .0) (r .1)) _ e)
     (λ _. in-table test none past t (and-right (test (r .0) (r .1)) _ e) h)
+
+-- what holds of the number of every kind that is named, and of 0, holds of the kind that a text names
+pub in-names : (test : ℕ → Bool) → test 0 ≡ true → (ns : List (ℕ × Text)) → every (λ n. test (n .0)) ns ≡ true → (s : Text)
+    → test (kindIn ns s) ≡ true
+unfolding kindIn every
+in-names test none [] all s = none
+in-names test none (n ∷ ns) all s =
+    if-cases (λ k. test k ≡ true) (same (n .1) s) (λ _. and-left (test (n .0)) _ all)
+    (λ _. in-names test none ns (and-right (test (n .0)) _ all) s)

@@ -1,0 +1,4 @@
+pub mod Names
+pub mod Older
+pub mod Own
+pub mod Determined

@@ -1,0 +1,19 @@
+-- No identifier of six letters begins with another byte.
+use mathlib.Core.Path.{refl}
+use borrow.Author.Needs.{needs}
+use Rattle.dirf.specs.Bytes.{bytes, bytes-opens}
+use Rattle.identifiers.proofs.Names.{other-first}
+use Rattle.identifiers.proofs.of_six.Statement.{statement}
+use Rattle.identifiers.proofs.of_six.Tie as tie
+
+pub of-six-spec : {M : Type 1} → statement M
+unfolding bytes-opens
+of-six-spec =
+    tie.close
+    (tie.spec
+    (λ c. search needs)
+    (λ c κs. search needs)
+    (λ c κs. search needs)
+    (λ c. search needs)
+    (λ c. search needs)
+    (λ c. search (needs, other-first 6 (bytes "RB") refl)))
