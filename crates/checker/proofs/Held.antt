@@ -54,8 +54,7 @@ module _ {e : Edition} {below : List (List ℕ)} {file : Text} {room : ℕ} {fir
         entries = h .table ∙ ap (λ es. withEntries (take (length first / numbersAnEntry) es) first) (sym (w .table));
       }
 
-  pub turn-step : {names rows : List ℕ} → SayAll e names rows below file → (s : Stepped) → s ≡ turnOf names rows below file st
-      → Step (h .reading) s
+  pub turn-step : {rows : List ℕ} → SayAll e rows below file → (s : Stepped) → s ≡ turnOf e rows below file st → Step (h .reading) s
   turn-step all s q = subst (Step (h .reading)) (sym q) (step (h .reading) all)
 
   pub held-next : (r : Record) → Goes (h .reading) r

@@ -11,7 +11,7 @@ use lib.Seq.{drop-drop}
 use borrow.Author.Tests.{leb-true, leb-false, lt-ltb, le-ltb, eqb-true, eqb-false}
 use Rattle.dirf.specs.Bytes.{if_then_else_, Text}
 use Rattle.dirf.specs.Limits.{linesLimit}
-use Rattle.dirf.specs.Edition.{Edition, kindIn}
+use Rattle.dirf.specs.Edition.{Edition, kindOf}
 use Rattle.dirf.specs.Lines.{Piece, pieces, clean, fields, field}
 use Rattle.dirf.specs.FieldReader.{fieldOf}
 use Rattle.dirf.specs.Rules.{Found, keeps, breaks, given, orElse, ask, first}
@@ -26,7 +26,6 @@ use Rattle.dirf.proofs.rules.RulesPut.{first-append}
 use Rattle.dirf.proofs.tree.History.{table-length}
 use Rattle.dirf.proofs.tree.OpenRecords.{open-depth}
 use Rattle.dirf.proofs.tree.Opened.{open-records}
-use Rattle.layout.specs.Tables.{namesIn}
 use Rattle.layout.specs.LaidOut.{SayBelow}
 use Rattle.rules.proofs.Laws.{or-keeps}
 use Rattle.checker.specs.Lines.{afterLine as behindLine, thirdKind}
@@ -148,7 +147,7 @@ module _ {e : Edition} {below : List (List ℕ)} {file : Text} {room : ℕ} {st 
       refl (end-is l q))
   end-step l false q = stopped _ refl (ends _ (refused before 1 0) (answer-is (h .sums) 1 0) refl (end-is l q))
 
-  module _ {names rows : List ℕ} (all : SayAll e names rows below file) where
+  module _ {rows : List ℕ} (all : SayAll e rows below file) where
     -- the declarant after one more line
     say-next : 3 ≤ suc (length before) → SayBelow e (declarant (rec (h .sums) ∷ before)) below
     unfolding declarant opening thirdKind kindOfLine fieldOf behind
@@ -157,8 +156,7 @@ module _ {e : Edition} {below : List (List ℕ)} {file : Text} {room : ℕ} {st 
         (λ t.
         let two : 2 ≡ st .count = omega (arith, h .sums .count, eqb-true (suc (length before)) 3 t) in
         subst (λ d. SayBelow e d below)
-        (ap (λ s. kindIn (namesIn names) (field 1 (fields (clean s)))) (ap (λ n. behind n file) two ∙ sym (h .came))
-        ∙ all .say .kind (field 1 (fields (ln (h .sums)))))
+        (ap (λ s. kindOf e (field 1 (fields (clean s)))) (ap (λ n. behind n file) two ∙ sym (h .came)))
         (all .say-below))
         (λ t. h .sums .say-below (omega (arith, eqb-false (suc (length before)) 3 t)))
 
@@ -185,7 +183,7 @@ module _ {e : Edition} {below : List (List ℕ)} {file : Text} {room : ℕ} {st 
             last-parts e room before p kept
             ∙ ap (λ (q : Piece). orElse (lookRule e before (q .body)) (fullRule e room before q)) (o .whole .is-piece)
             ∙ ap (λ f. orElse f (fullRule e room before p))
-            (sym (looked-is (h .sums) (small (h .sums) (all .say)) (o .stands) (o .few)) ∙ q)
+            (sym (looked-is (h .sums) (small (h .sums) all) (o .stands) (o .few)) ∙ q)
 
         more : breach e room before p ≡ keeps → Goes (readAs (h .sums))
         unfolding afterLine recOf bytesOf entryAfter entryOf behind stateAfter behindLine
@@ -200,7 +198,7 @@ module _ {e : Edition} {below : List (List ℕ)} {file : Text} {room : ℕ} {st 
               entry = ap₂ (λ x y. record { kind = r .kind; start = x; length = length line; parent = y }) (h .sums .at)
                   (parent-same (h .sums) (r .kind) (o .stands));
               reading = record {
-                sums = sums-next (h .sums) (r .kind) (o .stands) line (line-is file (st .at)) (small (h .sums) (all .say)) say-next;
+                sums = sums-next (h .sums) (r .kind) (o .stands) line (line-is file (st .at)) (small (h .sums) all) say-next;
                 rest = ap (λ s. run e room (r ∷ before) (pieces s)) moved ∙ ap (run e room (r ∷ before)) (sym (o .whole .is-rest))
                     ∙ ap (λ (q : Piece). run e room (recOf e before q ∷ before) (t .rest)) (sym (o .whole .is-piece)) ∙ on b;
                 few = omega (arith, h .sums .count, o .fewer);
@@ -215,7 +213,7 @@ module _ {e : Edition} {below : List (List ℕ)} {file : Text} {room : ℕ} {st 
         went-on =
             record {
               fits = record {
-                kind = small (h .sums) (all .say);
+                kind = small (h .sums) all;
                 outer = held-few (h .sums) (kd (h .sums)) (o .stands);
                 short = o .whole .short;
                 safe = record { fewer = omega (arith, o .fewer, h .sums .count); near = near };
@@ -235,9 +233,9 @@ module _ {e : Edition} {below : List (List ℕ)} {file : Text} {room : ℕ} {st 
           go keeps q o = subst Step (sym (o .is-went)) (record { stops = λ d. absurd (true≢false (sym d)); goes = λ _. went-on q o })
           go (breaks n f) q o = stopped s (o .stopped) (broken n f (s .answer) (last-parts e room before p q) (o .answer))
 
-    pub step : Step (turnOf names rows below file st)
+    pub step : Step (turnOf e rows below file st)
     unfolding turnOf
     step =
         by-answer (leb (length file) (st .at))
         (λ q. rw q (end-step (leb-true (length file) (st .at) q) (st .done) refl))
-        (λ q. on-step (turnOf names rows below file st) (turned (h .sums) (all .say) room (leb-false (length file) (st .at) q)))
+        (λ q. on-step (turnOf e rows below file st) (turned (h .sums) all room (leb-false (length file) (st .at) q)))

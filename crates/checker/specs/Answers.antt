@@ -1,17 +1,19 @@
 -- The verdict as the check gives it.
-use Prim.Native.Nat.{ℕ, _*_, _/_}
+use Prim.Native.Nat.{ℕ, _*_, _/_, _<_}
 use mathlib.Core.Path.{_≡_}
+use mathlib.Core.Bool.{false}
 use mathlib.Core.List.{List, _++_}
-use lib.Dec.{ltb}
+use lib.Dec.{eqb, ltb}
 use lib.ListN.{length, take, drop}
 use lib.Seq.{sets}
 use Rattle.dirf.specs.Bytes.{if_then_else_, Text}
 use Rattle.dirf.specs.Limits.{numbersAnEntry}
-use Rattle.dirf.specs.Edition.{Edition}
+use Rattle.dirf.specs.Edition.{Edition, kindOf, nameOf}
 use Rattle.dirf.specs.Check as dirf
 use Rattle.dirf.specs.Check.{Verdict, numbersOf, verdict}
 use Rattle.dirf.specs.Theorems.Sound.{Sound}
-use Rattle.layout.specs.LaidOut.{Say, SayBelow}
+use Rattle.layout.specs.Tables.{kinds}
+use Rattle.layout.specs.LaidOut.{SayRows, SayBelow}
 use Rattle.checker.specs.Lines.{thirdKind}
 use Rattle.checker.specs.declared.Answer.{Answer}
 use Rattle.checker.specs.declared.turn.Entry.{Entry}
@@ -41,22 +43,15 @@ unfoldable pub putEntry : List ℕ → ℕ → List ℕ → List ℕ
 putEntry t n row = if ltb n (length t / numbersAnEntry) then sets t (numbersAnEntry * n) row else t
 
 -- the lent tables say an edition, as far as a file asks them
-pub record SayAll (e : Edition) (names rows : List ℕ) (below : List (List ℕ)) (file : Text) : Type 0 where
+pub record SayAll (e : Edition) (rows : List ℕ) (below : List (List ℕ)) (file : Text) : Type 0 where
   pub sound : Sound e
-  pub say : Say e names rows
-  pub say-below : SayBelow e (thirdKind names file) below
-
--- there is such an edition
-pub record Tabled (names rows : List ℕ) (below : List (List ℕ)) (file : Text) : Type 0 where
-  pub edition : Edition
-  pub all : SayAll edition names rows below file
+  -- a kind that an identifier names is one of the tables', and has that identifier
+  pub small : (s : Text) → kindOf e s < kinds
+  pub own : (s : Text) → eqb (kindOf e s) 0 ≡ false → nameOf e (kindOf e s) ≡ s
+  pub say : SayRows e rows
+  pub say-below : SayBelow e (thirdKind e file) below
 
 -- the answer, and what is left in the table
 pub record Judged (e : Edition) (file : Text) (room : ℕ) (before after : List ℕ) (r : Answer) : Type 0 where
   pub answer : r ≡ answerOf (verdict e file room)
   pub entries : after ≡ tableWithin (verdict e file room) before
-
--- for every edition that the tables say
-abbrev pub JudgedAll : List ℕ → List ℕ → List (List ℕ) → Text → ℕ → List ℕ → List ℕ → Answer → Type 0
-JudgedAll names rows below file room before after r =
-    (e : Edition) → SayAll e names rows below file → Judged e file room before after r

@@ -7,8 +7,7 @@ use Rattle.dirf.specs.Bytes.{if_then_else_, Text}
 use Rattle.dirf.specs.Limits.{lineLimit, LF}
 use Rattle.dirf.specs.Lines.{clean, unclean}
 use Rattle.dirf.specs.FieldReader.{fieldOf}
-use Rattle.dirf.specs.Edition.{kindIn}
-use Rattle.layout.specs.Tables.{namesIn}
+use Rattle.dirf.specs.Edition.{Edition, kindOf}
 
 -- what ends a line, given what stands behind its bytes: 0 for CR LF, else 5 or 6
 unfoldable pub endOf : Text → ℕ
@@ -24,6 +23,6 @@ numberAt s = if ltb lineLimit (length (clean s)) then 4 else endOf (unclean s)
 unfoldable pub afterLine : Text → Text
 afterLine s = drop 2 (drop (length (clean s)) s)
 
--- the kind that line 3 names, whatever stands there
-unfoldable pub thirdKind : List ℕ → Text → ℕ
-thirdKind names file = kindIn (namesIn names) (fieldOf 1 (clean (afterLine (afterLine file))))
+-- the kind that line 3 names in an edition, whatever stands there
+unfoldable pub thirdKind : Edition → Text → ℕ
+thirdKind e file = kindOf e (fieldOf 1 (clean (afterLine (afterLine file))))

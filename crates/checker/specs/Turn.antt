@@ -1,4 +1,4 @@
--- One line over the state, with the lent tables, part by part in document 01's order.
+-- One line over the state, with the edition and the lent tables, part by part in document 01's order.
 use Prim.Native.Nat.{ℕ, _+_, _≤_, _<_}
 use mathlib.Core.Bool.{true, false, not}
 use mathlib.Core.List.{List}
@@ -6,13 +6,13 @@ use lib.Dec.{eqb, leb}
 use lib.ListN.{length, getD, drop}
 use Rattle.dirf.specs.Bytes.{if_then_else_, Text, endsWith}
 use Rattle.dirf.specs.Limits.{bar, lineLimit, linesLimit}
-use Rattle.dirf.specs.Edition.{kindIn}
+use Rattle.dirf.specs.Edition.{Edition, kindOf}
 use Rattle.dirf.specs.Lines.{clean}
 use Rattle.dirf.specs.FieldReader.{fieldOf}
 use Rattle.dirf.specs.Rules.{Found, keeps, breaks, given, orElse}
-use Rattle.fields.specs.Places.{partOf, placesOf, cellsAt}
+use Rattle.fields.specs.Places.{partOf, placesOf, cellAt, cellsAt}
 use Rattle.fields.specs.declared.Places.{Places}
-use Rattle.layout.specs.Tables.{kinds, nameIn, namesIn, countIn, rowsIn}
+use Rattle.layout.specs.Tables.{kinds, countIn, rowsIn}
 use Rattle.rules.specs.Findings.{contentsFound}
 use Rattle.checker.specs.Lines.{numberAt}
 use Rattle.checker.specs.State.{deepest, above, heldAt, placeFound, lookFound, Safe}
@@ -59,20 +59,20 @@ lookedFound file st r last =
 unfoldable pub entryOf : State → Record → Entry
 entryOf st r = record { kind = r .kind; start = st .at; len = r .len; parent = above (st .path .lines) (r .outer) }
 
--- 11, then 13 to 19
-unfoldable pub filledFound : List ℕ → List ℕ → Text → Places → ℕ → Found
-filledFound names rows line p k =
-    orElse (given 11 0 (not (eqb (p .count) (countIn rows k)))) (contentsFound k (nameIn names k) (rowsIn rows k) (cellsAt line p))
+-- 11, then 13 to 19; the kind was found by field 1, so that is its identifier
+unfoldable pub filledFound : List ℕ → Text → Places → ℕ → Found
+filledFound rows line p k =
+    orElse (given 11 0 (not (eqb (p .count) (countIn rows k)))) (contentsFound k (cellAt line p 0) (rowsIn rows k) (cellsAt line p))
 
 -- 9, 10 and 12, then those
-unfoldable pub readStep : List ℕ → List ℕ → Text → State → Places → Record → Stepped
-readStep names rows line st p r =
-    foundStep st (placeFound st (r .kind) (r .outer)) (foundStep st (filledFound names rows line p (r .kind)) (went r))
+unfoldable pub readStep : List ℕ → Text → State → Places → Record → Stepped
+readStep rows line st p r =
+    foundStep st (placeFound st (r .kind) (r .outer)) (foundStep st (filledFound rows line p (r .kind)) (went r))
 
 -- a line as a record: its kind by its identifier, and its place by its kind
-unfoldable pub recordOf : List ℕ → List (List ℕ) → Text → State → Places → Record
-recordOf names below line st p =
-    let k = kindIn (namesIn names) (fieldOf 1 line) in
+unfoldable pub recordOf : Edition → List (List ℕ) → Text → State → Places → Record
+recordOf e below line st p =
+    let k = kindOf e (fieldOf 1 line) in
     record {
       kind = k;
       outer = heldAt below st k;
@@ -84,22 +84,22 @@ recordOf names below line st p =
     }
 
 -- 8
-unfoldable pub recordStep : List ℕ → List ℕ → List (List ℕ) → Text → State → Places → Stepped
-recordStep names rows below line st p =
-    if endsWith bar line then readStep names rows line st p (recordOf names below line st p) else halt st 8 0
+unfoldable pub recordStep : Edition → List ℕ → List (List ℕ) → Text → State → Places → Stepped
+recordStep e rows below line st p =
+    if endsWith bar line then readStep rows line st p (recordOf e below line st p) else halt st 8 0
 
 -- 4, 5 and 6
-unfoldable pub lineStep : List ℕ → List ℕ → List (List ℕ) → Text → State → Stepped
-lineStep names rows below file st =
+unfoldable pub lineStep : Edition → List ℕ → List (List ℕ) → Text → State → Stepped
+lineStep e rows below file st =
     let s = drop (st .at) file in
-    if eqb (numberAt s) 0 then recordStep names rows below (partOf s 0 (length (clean s))) st (placesOf (clean s))
+    if eqb (numberAt s) 0 then recordStep e rows below (partOf s 0 (length (clean s))) st (placesOf (clean s))
     else halt st (numberAt s) 0
 
 -- the end, 1, 2 and 3
-unfoldable pub turnOf : List ℕ → List ℕ → List (List ℕ) → Text → State → Stepped
-turnOf names rows below file st =
+unfoldable pub turnOf : Edition → List ℕ → List (List ℕ) → Text → State → Stepped
+turnOf e rows below file st =
     if leb (length file) (st .at)
     then (if st .done then haltAt (record { number = 0; line = st .count; field = 0; entries = st .count }) else halt st 1 0)
     else if st .done then halt st 2 0
     else if leb linesLimit (st .count) then halt st 3 0
-    else lineStep names rows below file st
+    else lineStep e rows below file st

@@ -6,7 +6,6 @@ mod turn;
 use editions::Edition;
 use layout::HOLDERS;
 use layout::KINDS;
-use layout::NAME_BYTES;
 use layout::ROW_BYTES;
 use state::Last;
 use turn::Entry;
@@ -18,10 +17,9 @@ ghost use Rattle.dirf.specs.Limits.{linesLimit, numbersAnEntry};
 ghost use Rattle.dirf.specs.Kinds.{DECPF};
 ghost use Rattle.dirf.specs.Editions.{editionOf};
 ghost use Rattle.dirf.specs.Check.{entryNumbers, answerTo};
-ghost use Rattle.layout.specs.Tables.{nameTable};
 ghost use Rattle.editions.specs.Editions.{editionSaid};
 ghost use Rattle.checker.specs.Lines.{thirdKind};
-ghost use Rattle.checker.specs.Answers.{answerOf, tableAfter, entryOfCode, putEntry, Tabled, Judged, JudgedAll};
+ghost use Rattle.checker.specs.Answers.{answerOf, tableAfter, entryOfCode, putEntry, SayAll, Judged};
 
 // Document 01: "The table has four 32-bit numbers a record".
 pub const NUMBERS_AN_ENTRY: usize = 4;
@@ -65,31 +63,30 @@ fn put_entry(table: &mut [u32], n: u32, row: &[u32])
 }
 
 // The kind of line 3, whatever stands there: the declarant's, whose list holds from line 4 on.
-fn third_kind(names: &[u8; NAME_BYTES], file: &[u8]) -> u32
-    ensures { λ r. ⌜ r ≡ thirdKind (now (names .entry)) (now (file .entry)) ⌝ }
+fn third_kind(e: Edition, file: &[u8]) -> u32
+    ensures { λ r. ⌜ r ≡ thirdKind (editionSaid e) (now (file .entry)) ⌝ }
 {
     let s = lines::after_line(lines::after_line(file));
     let l = fields::scan(s);
-    layout::kind_of(names, fields::field(fields::part(s, 0, l.len), 1))
+    identifiers::kind_of(e, fields::field(fields::part(s, 0, l.len), 1))
 }
 
-// Line by line, with tables that say an edition; entries go to the table where it holds them whole.
+// Line by line, with tables that say the edition; entries go to the table where it holds them whole.
 fn walk(
-    names: &[u8; NAME_BYTES],
+    e: Edition,
     rows: &[u8; ROW_BYTES],
     below: &[[u8; KINDS]; HOLDERS],
     file: &[u8],
     room: usize,
     table: &mut [u32],
 ) -> Answer
-    requires { ⌜ Tabled (now names) (now rows) (now below) (now file) ⌝ }
-    ensures { λ r. ⌜ JudgedAll (now (names .entry)) (now (rows .entry)) (now (below .entry)) (now (file .entry)) room
-        (now (table .entry)) (now (table .exit)) r ⌝ }
+    requires { ⌜ SayAll (editionSaid e) (now rows) (now below) (now file) ⌝ }
+    ensures { λ r. ⌜ Judged (editionSaid e) (now (file .entry)) room (now (table .entry)) (now (table .exit)) r ⌝ }
 {
     let mut st = state::start();
     let mut past = state::nothing();
     loop {
-        let s = turn::turn(names, rows, below, file, st);
+        let s = turn::turn(e, rows, below, file, st);
         if s.stop {
             return s.answer;
         }
@@ -107,46 +104,34 @@ fn walk(
         if room <= st.count as usize {
             return turn::refused(st.count, 7, 0);
         }
-        let e = turn::entry_of(st, r);
-        let row = entry_numbers(e);
+        let entry = turn::entry_of(st, r);
+        let row = entry_numbers(entry);
         put_entry(table, st.count, &row);
-        past.under[i] = e.parent;
-        past.starts[i] = e.start;
-        past.lens[i] = e.len;
+        past.under[i] = entry.parent;
+        past.starts[i] = entry.start;
+        past.lens[i] = entry.len;
         st = state::state_after(st, r.kind, r.outer, r.len);
     }
 }
 
 // A file whose line 3 is a DECPF, and any other. Each makes its own tables: of two calls the compiler keeps one function, with its own
 // stack.
-fn walk_pf(
-    e: Edition,
-    names: &[u8; NAME_BYTES],
-    file: &[u8],
-    room: usize,
-    table: &mut [u32],
-) -> Answer
-    requires { ⌜ (now names ≡ nameTable (editionSaid e)) × (thirdKind (now names) (now file) ≡ DECPF) ⌝ }
+fn walk_pf(e: Edition, file: &[u8], room: usize, table: &mut [u32]) -> Answer
+    requires { ⌜ thirdKind (editionSaid e) (now file) ≡ DECPF ⌝ }
     ensures { λ r. ⌜ Judged (editionSaid e) (now (file .entry)) room (now (table .entry)) (now (table .exit)) r ⌝ }
 {
     let rows = layout::row_table(e);
     let below = layout::pf_table(e);
-    walk(names, &rows, &below, file, room, table)
+    walk(e, &rows, &below, file, room, table)
 }
 
-fn walk_pj(
-    e: Edition,
-    names: &[u8; NAME_BYTES],
-    file: &[u8],
-    room: usize,
-    table: &mut [u32],
-) -> Answer
-    requires { ⌜ (now names ≡ nameTable (editionSaid e)) × (thirdKind (now names) (now file) ≡ DECPF → ⊥) ⌝ }
+fn walk_pj(e: Edition, file: &[u8], room: usize, table: &mut [u32]) -> Answer
+    requires { ⌜ (thirdKind (editionSaid e) (now file) ≡ DECPF → ⊥) ⌝ }
     ensures { λ r. ⌜ Judged (editionSaid e) (now (file .entry)) room (now (table .entry)) (now (table .exit)) r ⌝ }
 {
     let rows = layout::row_table(e);
     let below = layout::pj_table(e);
-    walk(names, &rows, &below, file, room, table)
+    walk(e, &rows, &below, file, room, table)
 }
 
 // With the tables of the file's own edition, and that of the declarant alone of the two.
@@ -154,11 +139,10 @@ fn judged(file: &[u8], room: usize, table: &mut [u32]) -> Answer
     ensures { λ r. ⌜ Judged (editionOf (now (file .entry))) (now (file .entry)) room (now (table .entry)) (now (table .exit)) r ⌝ }
 {
     let e = editions::edition_of(file);
-    let names = layout::name_table(e);
-    if third_kind(&names, file) == 3 {
-        return walk_pf(e, &names, file, room, table);
+    if third_kind(e, file) == 3 {
+        return walk_pf(e, file, room, table);
     }
-    walk_pj(e, &names, file, room, table)
+    walk_pj(e, file, room, table)
 }
 
 // The check: acceptance with a record table, or the first breach with the entries before it.

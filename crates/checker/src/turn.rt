@@ -4,16 +4,17 @@ use crate::lines;
 use crate::state;
 use crate::state::Last;
 use crate::state::State;
+use editions::Edition;
 use fields::Places;
 use layout::HOLDERS;
 use layout::KINDS;
-use layout::NAME_BYTES;
 use layout::ROW_BYTES;
 use rules::Finding;
 ghost use mathlib.Core.Path.{_≡_};
 ghost use Prim.Native.Nat.{_≤_, _<_};
 ghost use Rattle.dirf.specs.Limits.{linesLimit};
 ghost use Rattle.layout.specs.Tables.{kinds};
+ghost use Rattle.editions.specs.Editions.{editionSaid};
 ghost use Rattle.rules.specs.Findings.{findingOf};
 ghost use Rattle.checker.specs.State.{deepest, Near, Safe};
 ghost use Rattle.checker.specs.Turn.{refusedAt, haltAt, halt, went, lookedFound, entryOf, Fits, filledFound, recordOf};
@@ -134,15 +135,9 @@ pub(crate) fn entry_of(st: State, r: Record) -> Entry
     }
 }
 
-// 11, then 13 to 19
-fn filled_found(
-    names: &[u8; NAME_BYTES],
-    rows: &[u8; ROW_BYTES],
-    line: &[u8],
-    p: Places,
-    k: u32,
-) -> Finding
-    ensures { λ f. ⌜ f ≡ findingOf (filledFound (now (names .entry)) (now (rows .entry)) (now (line .entry)) p k) ⌝ }
+// 11, then 13 to 19. The kind was found by field 1, so that is its identifier.
+fn filled_found(rows: &[u8; ROW_BYTES], line: &[u8], p: Places, k: u32) -> Finding
+    ensures { λ f. ⌜ f ≡ findingOf (filledFound (now (rows .entry)) (now (line .entry)) p k) ⌝ }
 {
     if p.count != layout::field_count(rows, k) {
         return Finding {
@@ -150,22 +145,23 @@ fn filled_found(
             field: 0,
         };
     }
-    rules::contents_found(line, p, layout::name(names, k), rows, k)
+    let name = fields::part(line, p.starts[0], p.lens[0]);
+    rules::contents_found(line, p, name, rows, k)
 }
 
 // The line as a record: its kind by its identifier, and its place by its kind.
 fn record_of(
-    names: &[u8; NAME_BYTES],
+    e: Edition,
     below: &[[u8; KINDS]; HOLDERS],
     line: &[u8],
     st: State,
     p: Places,
 ) -> Record
     requires { ⌜ st .path .depth ≤ deepest ⌝ }
-    ensures { λ r. ⌜ (r ≡ recordOf (now (names .entry)) (now (below .entry)) (now (line .entry)) st p)
+    ensures { λ r. ⌜ (r ≡ recordOf (editionSaid e) (now (below .entry)) (now (line .entry)) st p)
         × ((r .kind < kinds) × (r .outer ≤ deepest)) ⌝ }
 {
-    let k = layout::kind_of(names, fields::field(line, 1));
+    let k = identifiers::kind_of(e, fields::field(line, 1));
     Record {
         kind: k,
         outer: state::held_at(below, st, k),
@@ -178,22 +174,15 @@ fn record_of(
 }
 
 // 9, 10 and 12, then 11 and 13 to 19
-fn read(
-    names: &[u8; NAME_BYTES],
-    rows: &[u8; ROW_BYTES],
-    line: &[u8],
-    st: State,
-    p: Places,
-    r: Record,
-) -> Stepped
+fn read(rows: &[u8; ROW_BYTES], line: &[u8], st: State, p: Places, r: Record) -> Stepped
     requires { ⌜ Safe st ⌝ }
-    ensures { λ s. ⌜ s ≡ readStep (now (names .entry)) (now (rows .entry)) (now (line .entry)) st p r ⌝ }
+    ensures { λ s. ⌜ s ≡ readStep (now (rows .entry)) (now (line .entry)) st p r ⌝ }
 {
     let f = state::place_found(st, r.kind, r.outer);
     if f.number != 0 {
         return refuse(st, f.number, f.field);
     }
-    let g = filled_found(names, rows, line, p, r.kind);
+    let g = filled_found(rows, line, p, r.kind);
     if g.number != 0 {
         return refuse(st, g.number, g.field);
     }
@@ -202,7 +191,7 @@ fn read(
 
 // 8
 fn recorded(
-    names: &[u8; NAME_BYTES],
+    e: Edition,
     rows: &[u8; ROW_BYTES],
     below: &[[u8; KINDS]; HOLDERS],
     line: &[u8],
@@ -210,25 +199,25 @@ fn recorded(
     p: Places,
 ) -> Stepped
     requires { ⌜ Safe st ⌝ }
-    ensures { λ s. ⌜ s ≡ recordStep (now (names .entry)) (now (rows .entry)) (now (below .entry)) (now (line .entry)) st p ⌝ }
+    ensures { λ s. ⌜ s ≡ recordStep (editionSaid e) (now (rows .entry)) (now (below .entry)) (now (line .entry)) st p ⌝ }
 {
     if lines::ends_in_bar(line) {
-        let r = record_of(names, below, line, st, p);
-        return read(names, rows, line, st, p, r);
+        let r = record_of(e, below, line, st, p);
+        return read(rows, line, st, p, r);
     }
     refuse(st, 8, 0)
 }
 
 // 4, 5 and 6
 fn lined(
-    names: &[u8; NAME_BYTES],
+    e: Edition,
     rows: &[u8; ROW_BYTES],
     below: &[[u8; KINDS]; HOLDERS],
     file: &[u8],
     st: State,
 ) -> Stepped
     requires { ⌜ Safe st ⌝ }
-    ensures { λ s. ⌜ s ≡ lineStep (now (names .entry)) (now (rows .entry)) (now (below .entry)) (now (file .entry)) st ⌝ }
+    ensures { λ s. ⌜ s ≡ lineStep (editionSaid e) (now (rows .entry)) (now (below .entry)) (now (file .entry)) st ⌝ }
 {
     let rest = lines::tail(file, st.at);
     let l = fields::scan(rest);
@@ -237,19 +226,19 @@ fn lined(
         return refuse(st, number, 0);
     }
     let p = l.places;
-    recorded(names, rows, below, fields::part(rest, 0, l.len), st, p)
+    recorded(e, rows, below, fields::part(rest, 0, l.len), st, p)
 }
 
 // The end, 1, 2 and 3.
 pub(crate) fn turn(
-    names: &[u8; NAME_BYTES],
+    e: Edition,
     rows: &[u8; ROW_BYTES],
     below: &[[u8; KINDS]; HOLDERS],
     file: &[u8],
     st: State,
 ) -> Stepped
     requires { ⌜ Near st ⌝ }
-    ensures { λ s. ⌜ s ≡ turnOf (now (names .entry)) (now (rows .entry)) (now (below .entry)) (now (file .entry)) st ⌝ }
+    ensures { λ s. ⌜ s ≡ turnOf (editionSaid e) (now (rows .entry)) (now (below .entry)) (now (file .entry)) st ⌝ }
 {
     let n = st.count;
     let at = st.at;
@@ -271,5 +260,5 @@ pub(crate) fn turn(
     if LINES <= n {
         return refuse(st, 3, 0);
     }
-    lined(names, rows, below, file, st)
+    lined(e, rows, below, file, st)
 }

@@ -15,9 +15,6 @@ pf-table-one κs a x y s t p q = p ∙ sym q
 pub pj-table-one : One layout.pj_table.Reads.Post
 pj-table-one κs a x y s t p q = p ∙ sym q
 
-pub kind-of-one : One layout.kind_of.Reads.Post
-kind-of-one κs a x y s t p q = p ∙ sym q
-
 pub field-count-one : One layout.field_count.Reads.Post
 field-count-one κs a x y s t p q = p ∙ sym q
 

@@ -13,8 +13,8 @@ use Rattle.dirf.specs.Below.{Children, underDECPF2025, underDECPJ2025, underDEC
 use Rattle.dirf.specs.Edition.{Edition, nameOf, rowsOf, isBase, edition2025, edition2022, edition-opens}
 use Rattle.dirf.specs.Editions.{EditionName, of2025, of2022, editionNamed}
 use Rattle.dirf.proofs.tests.Bools.{if-cases}
-use Rattle.layout.specs.Tables.{holders, belowTable, nameIn, namesIn, isNamed, baseIn, nameTable, slotOf, concat, rowsIn}
-use Rattle.layout.specs.Tables.{tab, kinds, recordBytes, those, countIn, rowIn}
+use Rattle.layout.specs.Tables.{holders, belowTable, nameIn, baseIn, nameTable, slotOf, concat, rowsIn}
+use Rattle.layout.specs.Tables.{tab, kinds, recordBytes, countIn, rowIn}
 use Rattle.layout.specs.Tables.{byteIn, rowOf, formatOf, fillOf, needOf, holdsOf, recordOf, rowBytesOf, formatByte, fillByte}
 use Rattle.layout.specs.Tables.{needByte, holdsByte, rowTable, yes}
 use Rattle.layout.specs.LaidOut.{LaidOut, isKind}
@@ -27,7 +27,7 @@ each pf pj test f j d = if-cases (λ (t : Children). every test t ≡ true) (eqb
 
 -- what is computed of an edition with these lists, and what it has to come to
 abbrev Facts : Type 0
-Facts = List Bool × List (ℕ × Text) × List Text × List Bool × List ℕ
+Facts = List Bool × List Text × List Bool × List ℕ
 
 abbrev found : Edition → Children → Children → Facts
 found e pf pj = (
@@ -38,14 +38,13 @@ found e pf pj = (
       ∷ every (λ r. every isKind (r .1)) pf
       ∷ every (λ r. every isKind (r .1)) pj
       ∷ [],
-  namesIn (nameTable e),
   tab (nameIn (nameTable e)) 0 kinds,
   tab (baseIn (nameTable e)) 0 kinds,
   tab (λ k. length (recordOf (rowsOf e k))) 0 kinds,
 )
 
 abbrev wanted : Edition → Facts
-wanted e = (replicate 6 true, e .names, tab (nameOf e) 0 kinds, tab (isBase e) 0 kinds, replicate kinds recordBytes)
+wanted e = (replicate 6 true, tab (nameOf e) 0 kinds, tab (isBase e) 0 kinds, replicate kinds recordBytes)
 
 laid : (e : Edition) (pf pj : Children) → e .below ≡ byDeclarant pf pj → found e pf pj ≡ wanted e
     → ((after : List ℕ) → tab (λ k. rowsIn (recordOf (rowsOf e k) ++ after) 0) 0 kinds ≡ tab (rowsOf e) 0 kinds) → LaidOut e
@@ -57,15 +56,14 @@ laid e pf pj lists f records =
           (each pf pj (λ r. ltb (r .0) holders) (ap (λ (x : Facts). getD (x .0) 2 true) f) (ap (λ (x : Facts). getD (x .0) 3 true) f));
       held = rw lists
           (each pf pj (λ r. every isKind (r .1)) (ap (λ (x : Facts). getD (x .0) 4 true) f) (ap (λ (x : Facts). getD (x .0) 5 true) f));
-      names = ap (λ (x : Facts). x .1) f;
-      name = ap (λ (x : Facts). x .2) f;
-      base = ap (λ (x : Facts). x .3) f;
-      widths = ap (λ (x : Facts). x .4) f;
+      name = ap (λ (x : Facts). x .1) f;
+      base = ap (λ (x : Facts). x .2) f;
+      widths = ap (λ (x : Facts). x .3) f;
       records = records;
     }
 
 pub laid-out : (n : EditionName) → LaidOut (editionNamed n)
-unfolding nameIn those namesIn isNamed baseIn nameTable slotOf concat rowsIn countIn rowIn byteIn rowOf formatOf fillOf needOf holdsOf
+unfolding nameIn baseIn nameTable slotOf concat rowsIn countIn rowIn byteIn rowOf formatOf fillOf needOf holdsOf
     recordOf rowBytesOf formatByte fillByte needByte holdsByte bytes-opens kinds-opens edition-opens editionNamed
 laid-out of2025 = laid edition2025 underDECPF2025 underDECPJ2025 refl refl (λ after. refl)
 laid-out of2022 = laid edition2022 underDECPF2022 underDECPJ2022 refl refl (λ after. refl)

@@ -1,6 +1,6 @@
 -- What callers of the tables need: what any table does, what tables say of an edition, and that an edition's own tables say it.
 use Prim.Native.Nat.{ℕ, _+_, _*_, _≤_, _<_}
-use mathlib.Core.Path.{_≡_, refl, sym, ap, _∙_, subst}
+use mathlib.Core.Path.{_≡_, refl, sym, ap, _∙_}
 use mathlib.Core.Bool.{Bool, true, false, and-false}
 use mathlib.Core.List.{List, [], _∷_, _++_}
 use native.Mathlib.Nat.{add-zero, zero-add, min-le-left, lt-of-lt-of-le, not-suc-le-zero}
@@ -9,42 +9,22 @@ use lib.Dec.{eqb, ltb}
 use lib.ListN.{length, getD, drop}
 use lib.Seq.{getD-drop}
 use borrow.Author.Tests.{ltb-true, lt-ltb, le-ltb}
-use Rattle.dirf.specs.Bytes.{Text, every, some, same, isIn, lookup}
+use Rattle.dirf.specs.Bytes.{Text, every, some, isIn, lookup}
 use Rattle.dirf.specs.Row.{Row}
-use Rattle.dirf.specs.Edition.{Edition, kindIn, kindOf, nameOf, rowsOf, isBase}
+use Rattle.dirf.specs.Edition.{Edition, kindOf, nameOf, rowsOf, isBase}
 use Rattle.dirf.specs.Tree.{mayHold}
 use Rattle.dirf.proofs.tests.Bools.{if-cases}
 use Rattle.dirf.proofs.tests.Says.{below-or}
-use Rattle.dirf.proofs.tables.Tables.{in-table}
+use Rattle.dirf.proofs.tables.Tables.{in-table, in-names}
 use Rattle.fields.specs.Places.{mostFields}
-use Rattle.layout.specs.Tables.{kinds, holders, nameIn, namesIn, isNamed, baseIn, nameTable, rowBytes, recordBytes, rowIn}
-use Rattle.layout.specs.Tables.{those, rowsIn, countIn}
+use Rattle.layout.specs.Tables.{kinds, holders, nameIn, baseIn, nameTable, rowBytes, recordBytes, rowIn, rowsIn, countIn}
 use Rattle.layout.specs.Tables.{byteIn, rowTable, recordOf, yes, yesIn, holdsIn, belowTable}
 use Rattle.layout.specs.LaidOut.{Say, SayRows, SayBelow, isKind, LaidOut}
 use Rattle.layout.specs.Codes.{rowCodes, rowSaid}
-use Rattle.layout.proofs.Past.{by-kind, every-first, every-rest, some-past, isIn-past, lookup-past, rows-past}
+use Rattle.layout.proofs.Past.{by-kind, some-past, isIn-past, lookup-past, rows-past}
 use Rattle.layout.proofs.Tab.{tab-at, tab-length, tab-same, tab-each, tab2-at, concat-drop}
 
 -- any table
-kind-below : (ns : List (ℕ × Text)) (s : Text) → every (λ n. isKind (n .0)) ns ≡ true → kindIn ns s < kinds
-unfolding kindIn
-kind-below [] s e = omega arith
-kind-below (n ∷ ns) s e =
-    if-cases (λ k. k < kinds) (same (n .1) s)
-    (λ q. ltb-true (n .0) kinds (every-first (λ n. isKind (n .0)) n ns e))
-    (λ q. kind-below ns s (every-rest (λ n. isKind (n .0)) n ns e))
-
-every-those : {A : Type 0} (test kept : A → Bool) (xs : List A) → every test xs ≡ true → every test (those kept xs) ≡ true
-unfolding every those
-every-those test kept [] e = refl
-every-those test kept (x ∷ xs) e =
-    let rest = every-those test kept xs (every-rest test x xs e) in
-    if-cases (λ ys. every test ys ≡ true) (kept x) (λ _. rw (every-first test x xs e) rest) (λ _. rest)
-
-pub kind-bound : (t : List ℕ) (s : Text) → kindIn (namesIn t) s < kinds
-unfolding every namesIn
-kind-bound t s = kind-below (namesIn t) s (every-those (λ n. isKind (n .0)) isNamed _ refl)
-
 pub row-said : (t : List ℕ) (k i : ℕ) → i < countIn t k → rowSaid (rowCodes t k i) ≡ rowIn t k i
 unfolding rowSaid rowCodes rowIn countIn
 row-said t k i =
@@ -63,11 +43,7 @@ pub count-bound : (t : List ℕ) (k : ℕ) → countIn t k ≤ mostFields
 unfolding countIn
 count-bound t k = if-cases (λ n. n ≤ mostFields) (ltb k kinds) (λ _. min-le-left mostFields _) (λ _. omega arith)
 
--- what tables say of an edition holds of the edition: every kind is a number of the tables, and no kind has more than fifteen fields
-module _ {e : Edition} {names rows : List ℕ} (say : Say e names rows) where
-  pub kind-small : (s : Text) → kindOf e s < kinds
-  kind-small s = subst (λ k. k < kinds) (say .kind s) (kind-bound names s)
-
+-- what a table of rows says of an edition holds of the edition: no kind has more than fifteen fields
 module _ {e : Edition} {rows : List ℕ} (say : SayRows e rows) where
   pub count-is : (k : ℕ) → countIn rows k ≡ length (rowsOf e k)
   count-is k = sym (rows-length rows k) ∙ ap length (say .fields k)
@@ -126,14 +102,17 @@ module _ (e : Edition) (l : LaidOut e) where
   unfolding nameIn baseIn isBase
   no-base t k h = rw (le-ltb k kinds h, some-past kinds k h (λ n. n .0) (e .names) (l .named-kinds))
 
+  -- every kind that an identifier names is a number of the tables
+  pub kind-small : (s : Text) → kindOf e s < kinds
+  unfolding kindOf
+  kind-small s = ltb-true (kindOf e s) kinds (in-names isKind refl (e .names) (l .named-kinds) s)
+
   pub says-rows : SayRows e (rowTable e)
   says-rows = record { fields = λ k. by-kind k (rows-there k) (no-rows (rowTable e) k) }
 
   pub says : Say e (nameTable e) (rowTable e)
-  unfolding kindOf
   says =
       record {
-        kind = λ s. ap (λ ns. kindIn ns s) (l .names);
         name = λ k. by-kind k (tab-each (nameIn (nameTable e)) (nameOf e) kinds (l .name) k) (no-name (nameTable e) k);
         base = λ k. by-kind k (tab-each (baseIn (nameTable e)) (isBase e) kinds (l .base) k) (no-base (nameTable e) k);
         all-rows = says-rows;

@@ -3,8 +3,6 @@ use Prim.Native.Nat.{ℕ, zero, suc, _+_, _-_, _*_, _≤_, _<_}
 use mathlib.Core.Path.{_≡_, refl, sym, ap, _∙_}
 use mathlib.Core.List.{List, [], _∷_, _++_, head-eq-of-cons-eq, tail-eq-of-cons-eq}
 use native.Mathlib.Nat.{add-zero, zero-add, add-suc, suc-add, add-comm, zero-mul, suc-mul, le-of-suc-le-suc, not-suc-le-zero}
-use native.Mathlib.Nat.{sub-eq-zero-of-le}
-use native.Mathlib.Numerals.{add-one}
 use native.Mathlib.Omega.{arith}
 use lib.ListN.{length, getD, drop, replicate, getD-replicate}
 use lib.Seq.{drop-append-add}
@@ -29,15 +27,6 @@ module _ {ℓ} {A : Type ℓ} (f : ℕ → A) where
       let k : x ≡ i + (x - i) = omega arith in
       let h : x - i < n = omega arith in
       ap f k ∙ sym (tab-from v n i (x - i) h) ∙ ap (λ l. getD l (x - i) v) all ∙ getD-replicate n (x - i) v v h
-
-  -- from i up to n, an entry at a time
-  pub tab-on : (i n : ℕ) → i < n → tab f i (n - i) ≡ f i ∷ tab f (i + 1) (n - (i + 1))
-  tab-on i n h =
-      let e : n - i ≡ suc (n - suc i) = omega arith in
-      rw (add-one i, e)
-
-  pub tab-end : (i n : ℕ) → n ≤ i → tab f i (n - i) ≡ []
-  tab-end i n h = rw (sub-eq-zero-of-le h)
 
 module _ {ℓ} {A : Type ℓ} (f g : ℕ → A) where
   pub tab-same : ((x : ℕ) → f x ≡ g x) → (i n : ℕ) → tab f i n ≡ tab g i n

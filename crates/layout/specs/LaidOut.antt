@@ -5,10 +5,10 @@ use mathlib.Core.Bool.{Bool, true}
 use mathlib.Core.List.{List, _++_}
 use lib.Dec.{ltb}
 use lib.ListN.{length, replicate}
-use Rattle.dirf.specs.Bytes.{Text, every}
-use Rattle.dirf.specs.Edition.{Edition, kindIn, kindOf, nameOf, rowsOf, isBase}
+use Rattle.dirf.specs.Bytes.{every}
+use Rattle.dirf.specs.Edition.{Edition, nameOf, rowsOf, isBase}
 use Rattle.dirf.specs.Tree.{mayHold}
-use Rattle.layout.specs.Tables.{tab, kinds, holders, nameIn, namesIn, baseIn, nameTable, recordBytes, recordOf, rowsIn, holdsIn}
+use Rattle.layout.specs.Tables.{tab, kinds, holders, nameIn, baseIn, nameTable, recordBytes, recordOf, rowsIn, holdsIn}
 
 -- a lent table says an edition: whoever reads it reads what the edition has
 pub record SayRows (e : Edition) (rows : List ℕ) : Type 0 where
@@ -16,7 +16,6 @@ pub record SayRows (e : Edition) (rows : List ℕ) : Type 0 where
 
 -- the tables of identifiers and of rows
 pub record Say (e : Edition) (names rows : List ℕ) : Type 0 where
-  pub kind : (s : Text) → kindIn (namesIn names) s ≡ kindOf e s
   pub name : (k : ℕ) → nameIn names k ≡ nameOf e k
   pub base : (k : ℕ) → baseIn names k ≡ isBase e k
   pub all-rows : SayRows e rows
@@ -36,7 +35,6 @@ pub record LaidOut (e : Edition) : Type 0 where
   pub holds : (d : ℕ) → every (λ r. ltb (r .0) holders) (e .below d) ≡ true
   pub held : (d : ℕ) → every (λ r. every isKind (r .1)) (e .below d) ≡ true
   -- identifiers and rows fit their places, and read back
-  pub names : namesIn (nameTable e) ≡ e .names
   pub name : tab (nameIn (nameTable e)) 0 kinds ≡ tab (nameOf e) 0 kinds
   pub base : tab (baseIn (nameTable e)) 0 kinds ≡ tab (isBase e) 0 kinds
   pub widths : tab (λ k. length (recordOf (rowsOf e k))) 0 kinds ≡ replicate kinds recordBytes

@@ -4,7 +4,7 @@ use mathlib.Core.Bool.{Bool, true, false, _&&_, not}
 use mathlib.Core.List.{List, [], _∷_, _++_, map}
 use lib.Dec.{eqb, ltb}
 use lib.ListN.{length, getD, take, drop, replicate}
-use Rattle.dirf.specs.Bytes.{if_then_else_, Text, bytes, isIn, isEmpty, lookup}
+use Rattle.dirf.specs.Bytes.{if_then_else_, Text, bytes, isIn, lookup}
 use Rattle.dirf.specs.Kinds.{IDREC, isLater}
 use Rattle.dirf.specs.Row.{Row, row, Format, C, N, D, Fill, fixed, variable, Need, obligatory, optional}
 use Rattle.dirf.specs.Row.{Holds, identifier, amount, months, ddd, telephone, cpf, cnpj, cpfOrCnpj, plain, oneOf, sOrN}
@@ -37,18 +37,6 @@ nameIn t k = if ltb k kinds then take (min 7 (getD t (k * slot) 0)) (drop (k * s
 -- where it stands there
 unfoldable pub nameStart : ℕ → ℕ
 nameStart k = if ltb k kinds then k * slot + 1 else 0
-
--- the elements of a list of which a test holds
-unfoldable pub those : {A : Type 0} → (A → Bool) → List A → List A
-those test [] = []
-those test (x ∷ xs) = if test x then x ∷ those test xs else those test xs
-
--- the kinds and their identifiers, as a table has them; an empty slot names nothing
-unfoldable pub isNamed : ℕ × Text → Bool
-isNamed n = not (isEmpty (n .1))
-
-unfoldable pub namesIn : List ℕ → List (ℕ × Text)
-namesIn t = those isNamed (tab (λ k. (k, nameIn t k)) 1 (kinds - 1))
 
 -- a kind that a table names and that is not left for later
 unfoldable pub baseIn : List ℕ → ℕ → Bool

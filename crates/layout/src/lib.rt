@@ -8,9 +8,9 @@ ghost use lib.Seq.{sets};
 ghost use denote.Ref.{ptr};
 ghost use Rattle.dirf.specs.Kinds.{isLater, isValue, opensNothing, standsOnce};
 ghost use Rattle.dirf.specs.Kinds.{DECPF, DECPJ};
-ghost use Rattle.dirf.specs.Edition.{edition2025, kindIn};
+ghost use Rattle.dirf.specs.Edition.{edition2025};
 ghost use Rattle.dirf.specs.Tree.{blockOf};
-ghost use Rattle.layout.specs.Tables.{nameIn, nameStart, namesIn, baseIn, countIn, yesIn, holdsIn, nameTable, rowTable, belowTable};
+ghost use Rattle.layout.specs.Tables.{nameIn, nameStart, baseIn, countIn, yesIn, holdsIn, nameTable, rowTable, belowTable};
 ghost use Rattle.layout.specs.Codes.{rowCodes};
 ghost use Rattle.editions.specs.Editions.{editionSaid};
 
@@ -471,24 +471,6 @@ pub fn name(names: &[u8; NAME_BYTES], k: u32) -> &[u8]
     }
     let end = start + n as usize;
     &all[start..end]
-}
-
-// The kind that an identifier names; 0: unknown.
-pub fn kind_of(names: &[u8; NAME_BYTES], s: &[u8]) -> u32
-    ensures { λ r. ⌜ r ≡ kindIn (namesIn (now (names .entry))) (now (s .entry)) ⌝ }
-{
-    // an empty slot is nobody's identifier
-    if s.len() == 0 {
-        return 0;
-    }
-    let mut k: u32 = 1;
-    while (k as usize) < KINDS {
-        if fields::same(name(names, k), s) {
-            return k;
-        }
-        k += 1;
-    }
-    0
 }
 
 // How many fields a kind has.

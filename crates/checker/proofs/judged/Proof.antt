@@ -16,9 +16,9 @@ own : {n : EditionName} {file : Text} {room : ℕ} {before after : List ℕ} {r 
 unfolding editionOf
 own {n} {file} {room} {before} {after} {r} e = subst (λ n. Judged (editionNamed n) file room before after r) e
 
--- from behind the third line's kind back to the edition
+-- from the kind of line 3 back to the edition
 abbrev picked : tie.After-third-kind → tie.After-edition-of
-picked c = c .before .before .before
+picked c = c .before
 
 pub judged-spec : {M : Type 1} → statement M
 judged-spec =
@@ -27,9 +27,8 @@ judged-spec =
     (λ c κs. search needs)
     (λ c κs. search needs)
     (λ c κs. search needs)
-    (λ c κs. search needs)
     (λ c. judged-length (c .before .before .walk-pf .ensures))
-    (λ c. let w = c .before .before in own (picked (w .before .before .before .before) .edition-of .ensures) (w .walk-pf .ensures))
+    (λ c. let w = c .before .before in own (picked (w .before .before .before) .edition-of .ensures) (w .walk-pf .ensures))
     (λ c κs. search needs)
     (λ c. judged-length (c .before .before .walk-pj .ensures))
-    (λ c. let w = c .before .before in own (picked (w .before .before .before .before) .edition-of .ensures) (w .walk-pj .ensures)))
+    (λ c. let w = c .before .before in own (picked (w .before .before .before) .edition-of .ensures) (w .walk-pj .ensures)))

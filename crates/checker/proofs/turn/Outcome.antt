@@ -10,7 +10,7 @@ use borrow.Author.Tests.{lt-leb, ltb-false, eqb-true, ne-eqb, not-false}
 use Rattle.dirf.specs.Bytes.{if_then_else_, Text, endsWith}
 use Rattle.dirf.specs.Limits.{bar, linesLimit}
 use Rattle.dirf.specs.Kinds.{isLater, standsOnce}
-use Rattle.dirf.specs.Edition.{Edition, kindIn, nameOf, rowsOf}
+use Rattle.dirf.specs.Edition.{Edition, kindOf, nameOf, rowsOf}
 use Rattle.dirf.specs.Lines.{Piece, pieces, fields, field, clean}
 use Rattle.dirf.specs.FieldReader.{fieldOf}
 use Rattle.dirf.specs.Rules.{Found, keeps, breaks, given, orElse, Rule, ask, first, askedOf, over}
@@ -25,16 +25,15 @@ use Rattle.dirf.proofs.rules.RulesPut.{or-assoc}
 use Rattle.fields.specs.Places.{mostFields, partOf, placesOf, cellAt, cellsAt}
 use Rattle.fields.proofs.PlaceLaws.{places-count, places-cells}
 use Rattle.fields.proofs.Inside.{cell-is}
-use Rattle.layout.specs.Tables.{kinds, namesIn, nameIn, rowsIn, countIn}
-use Rattle.layout.specs.LaidOut.{Say}
-use Rattle.layout.proofs.Laws.{kind-small, count-is, few-rows}
+use Rattle.layout.specs.Tables.{kinds, rowsIn, countIn}
+use Rattle.layout.proofs.Laws.{count-is, few-rows}
 use Rattle.rules.specs.Findings.{contentsFound}
 use Rattle.rules.proofs.Laws.{or-keeps}
 use Rattle.checker.specs.Lines.{numberAt}
 use Rattle.checker.specs.State.{heldAt, lastIn, placeFound, lookFound}
 use Rattle.checker.specs.Turn.{refusedAt, halt, foundStep, went, lookedFound, filledFound, readStep, recordOf, recordStep, lineStep}
 use Rattle.checker.specs.Turn.{turnOf}
-use Rattle.checker.specs.Answers.{answerOf}
+use Rattle.checker.specs.Answers.{answerOf, SayAll}
 use Rattle.checker.specs.declared.state.Past.{Past}
 use Rattle.checker.specs.declared.state.State.{State}
 use Rattle.checker.specs.declared.turn.Record.{Record}
@@ -178,51 +177,62 @@ module _ {e : Edition} {below : List (List ℕ)} {file : Text} {st : State} {pas
   many : leb linesLimit (st .count) ≡ ltb linesLimit (suc (length before))
   many = ap (leb linesLimit) (h .count) ∙ sym (leb·suc-suc linesLimit (length before))
 
-  module _ {names rows : List ℕ} (say : Say e names rows) where
-    kind-is : kindIn (namesIn names) (fieldOf 1 ln) ≡ kd
-    unfolding kindOfLine fieldOf
-    kind-is = say .kind (field 1 (fields ln))
+  kind-is : kindOf e (fieldOf 1 ln) ≡ kd
+  unfolding kindOfLine fieldOf
+  kind-is = refl
 
+  -- a line that may stand has a kind
+  known : placeRule e before ln ≡ keeps → eqb kd 0 ≡ false
+  known q = given-false 9 1 _ (or-else-left _ _ q)
+
+  module _ {rows : List ℕ} (all : SayAll e rows below file) where
     pub small : kd < kinds
     unfolding kindOfLine
-    small = kind-small say (field 1 (fields ln))
+    small = all .small (field 1 (fields ln))
+
+    own : eqb kd 0 ≡ false → nameOf e kd ≡ field 1 (fields ln)
+    unfolding kindOfLine
+    own = all .own (field 1 (fields ln))
 
     few-fields : fillRule e before ln ≡ keeps → length (fields ln) ≤ mostFields
     few-fields q =
         let n = eqb-true (length (fields ln)) (length (rowsOf e kd)) (not-false _ (given-false 11 0 _ (or-else-left _ _ q))) in
-        omega (arith, few-rows (say .all-rows) kd, n)
+        omega (arith, few-rows (all .say) kd, n)
 
-    fill-is : filledFound names rows ln (placesOf ln) kd ≡ fillRule e before ln
+    fill-is : eqb kd 0 ≡ false → filledFound rows ln (placesOf ln) kd ≡ fillRule e before ln
     unfolding filledFound orElse given
-    fill-is =
+    fill-is named =
         ap (λ n. orElse (given 11 0 (not (eqb n (countIn rows kd))))
-        (contentsFound kd (nameIn names kd) (rowsIn rows kd) (cellsAt ln (placesOf ln)))) (places-count ln)
-        ∙ rw (count-is (say .all-rows) kd, say .name kd, say .all-rows .fields kd)
+        (contentsFound kd (cellAt ln (placesOf ln) 0) (rowsIn rows kd) (cellsAt ln (placesOf ln)))) (places-count ln)
+        ∙ rw (count-is (all .say) kd, all .say .fields kd, own named)
         (by-answer (eqb (length (fields ln)) (length (rowsOf e kd)))
-        (λ t. rw (places-cells ln (omega (arith, few-rows (say .all-rows) kd, eqb-true (length (fields ln)) (length (rowsOf e kd)) t))))
+        (λ t.
+        let n = eqb-true (length (fields ln)) (length (rowsOf e kd)) t in
+        let fits : length (fields ln) ≤ mostFields = omega (arith, few-rows (all .say) kd, n) in
+        rw (places-cells ln fits, cell-is ln 0 fits))
         (λ t. rw t))
 
     -- a whole line
     whole-outcome : (p : Piece) (rest : List Piece) → WholeLine left ln p rest → length before < linesLimit
-        → Outcome p rest (recordStep names rows below (partOf left 0 (length ln)) st (placesOf ln)) (lateRule e before ln)
+        → Outcome p rest (recordStep e rows below (partOf left 0 (length ln)) st (placesOf ln)) (lateRule e before ln)
     unfolding recordStep readStep recordOf
     whole-outcome p rest whole fewer =
         rw (line-is left 0, kind-is)
         (unless p rest 8 0 (endsWith bar ln) _ _
         (found p rest _ (placeRule e before ln) _ _ place-is (λ q.
         subst (Outcome p rest _) (or-keeps (fillRule e before ln))
-        (found p rest _ (fillRule e before ln) _ keeps fill-is (λ f.
+        (found p rest _ (fillRule e before ln) _ keeps (fill-is (known q)) (λ f.
         record { whole = whole; is-went = refl; fewer = fewer; stands = may q; few = few-fields f })))))
 
     -- a line as it is found
     line-outcome : (q : Read left ln (numberAt left)) → length before < linesLimit
-        → Outcome (q .piece) (q .rest) (lineStep names rows below file st)
+        → Outcome (q .piece) (q .rest) (lineStep e rows below file st)
         (orElse (scanFound (q .piece)) (lateRule e before (q .piece .body)))
     unfolding orElse foundOf lineStep
     line-outcome q fewer = rw (q .told) (go (numberAt left) refl)
       where
         whole : Stepped
-        whole = recordStep names rows below (partOf left 0 (length ln)) st (placesOf ln)
+        whole = recordStep e rows below (partOf left 0 (length ln)) st (placesOf ln)
 
         go : (n : ℕ) → numberAt left ≡ n
             → Outcome (q .piece) (q .rest) (if eqb n 0 then whole else halt st n 0)
@@ -232,7 +242,7 @@ module _ {e : Edition} {below : List (List ℕ)} {file : Text} {st : State} {pas
             (whole-outcome (q .piece) (q .rest) (q .whole z) fewer)
         go (suc m) z = rw (ne-eqb (suc m) 0 (λ q. omega arith)) (gave (suc m) 0)
 
-    pub turned : (room : ℕ) → st .at < length file → Turned room (turnOf names rows below file st)
+    pub turned : (room : ℕ) → st .at < length file → Turned room (turnOf e rows below file st)
     unfolding turnOf
     turned room l =
         let q : Read left ln (numberAt left) = read left (omega (arith, length-drop (st .at) file)) in
@@ -244,5 +254,5 @@ module _ {e : Edition} {below : List (List ℕ)} {file : Text} {st : State} {pas
               rw (early-is e room before (q .piece), lt-leb (length file) (st .at) l)
               (try (q .piece) (q .rest) 2 0 (st .done) (closed before) _ _ (h .done) (λ _.
               try (q .piece) (q .rest) 3 0 (leb linesLimit (st .count)) (ltb linesLimit (suc (length before)))
-              (lineStep names rows below file st) _ many (λ u. line-outcome q (ltb-false linesLimit (suc (length before)) u))));
+              (lineStep e rows below file st) _ many (λ u. line-outcome q (ltb-false linesLimit (suc (length before)) u))));
         }

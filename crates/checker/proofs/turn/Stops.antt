@@ -36,9 +36,9 @@ unfolding placeFound
 place-numbered st k d =
     or-else-passes (ltb 0) _ _ (given-numbered 8 1 _) (or-else-passes (ltb 0) _ _ (given-numbered 9 1 _) (given-numbered 11 1 _))
 
-pub filled-numbered : (names rows : List ℕ) (line : Text) (p : Places) (k : ℕ) → Numbered (filledFound names rows line p k)
+pub filled-numbered : (rows : List ℕ) (line : Text) (p : Places) (k : ℕ) → Numbered (filledFound rows line p k)
 unfolding filledFound contentsFound every fieldOrder
-filled-numbered names rows line p k = or-else-passes (ltb 0) _ _ (given-numbered 10 0 _) (first-passes (ltb 0) contents _ refl)
+filled-numbered rows line p k = or-else-passes (ltb 0) _ _ (given-numbered 10 0 _) (first-passes (ltb 0) contents _ refl)
 
 pub looked-numbered : (file : Text) (st : State) (r : Record) (last : Last) → Numbered (lookedFound file st r last)
 unfolding lookedFound lookFound

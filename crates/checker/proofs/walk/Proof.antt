@@ -1,46 +1,46 @@
--- The loop, for every edition that the tables say; that there is one keeps its numbers small.
+-- The loop, for the edition that it is told and that the tables say.
 use Prim.Native.Nat.{suc, _-_}
 use mathlib.Core.Path.{_≡_, ap}
 use native.Mathlib.Omega.{arith}
 use lib.ListN.{length}
 use borrow.Author.Needs.{needs}
-use Rattle.dirf.specs.Edition.{Edition}
 use Rattle.dirf.specs.Limits.{linesLimit}
 use Rattle.dirf.specs.Check.{entryNumbers}
 use Rattle.dirf.specs.Rules.{keeps}
+use Rattle.editions.specs.Editions.{editionSaid}
 use Rattle.rules.proofs.Laws.{finding-says}
 use Rattle.checker.specs.State.{lastIn, stateAfter, pastAfter, Near}
 use Rattle.checker.specs.Turn.{Fits, lookedFound, entryOf}
-use Rattle.checker.specs.Answers.{SayAll}
 use Rattle.checker.specs.declared.state.State.{State}
 use Rattle.checker.proofs.turn.Stops.{looked-numbered, keeps-all}
-use Rattle.checker.proofs.Reading.{On, near}
+use Rattle.checker.proofs.Reading.{On, Step, near}
 use Rattle.checker.proofs.Held.{Held, held-start, same-length, answered, turn-step, held-next}
 use Rattle.checker.proofs.walk.Statement.{statement}
 use Rattle.checker.proofs.walk.Tie as tie
 
 abbrev Inv-loop : tie.InvT-loop
-Inv-loop names rows below file room table₀ st₀ past₀ table st past =
-    (e : Edition) → SayAll e names rows below file → Held e below file room table₀ table st past
+Inv-loop e rows below file room table₀ st₀ past₀ table st past = Held (editionSaid e) below file room table₀ table st past
 
 abbrev μ-loop : tie.MeasureT-loop
-μ-loop names rows below file room table₀ st₀ past₀ table st past = suc linesLimit - st .count
+μ-loop e rows below file room table₀ st₀ past₀ table st past = suc linesLimit - st .count
 
--- the loop's head: of the edition that there is
+-- the loop's head
 close : (c : tie.At-loop Inv-loop μ-loop) → Near (c .loop .st)
-close c = let t = c .before .before .before .before .before .pre in near (c .loop .inv (t .edition) (t .all) .reading)
+close c = near (c .loop .inv .reading)
 
 long : (c : tie.At-loop Inv-loop μ-loop) → length (c .loop .table) ≡ length (c .before .before .before .before .before .args .table .now)
-long c = let t = c .before .before .before .before .before .pre in same-length (c .loop .inv (t .edition) (t .all))
+long c = same-length (c .loop .inv)
 
--- a turn that goes on has read a record: of any edition, and of the one that there is
-on : (c : tie.Else1 Inv-loop μ-loop) (e : Edition) → let a = c .before .before .before .before .before .before .before .args in
-    (all : SayAll e (a .names .now) (a .rows .now) (a .below .now) (a .file .now))
-    → On (c .before .before .loop .inv e all .reading) (c .before .turn .result .read)
-on c e all = let u = c .before .turn in turn-step (c .before .before .loop .inv e all) all (u .result) (u .ensures) .goes (c .if1 .left)
+-- what the turn came to
+stepped : (c : tie.After-turn Inv-loop μ-loop) → Step (c .before .loop .inv .reading) (c .turn .result)
+stepped c = turn-step (c .before .loop .inv) (c .before .before .before .before .before .before .pre) (c .turn .result) (c .turn .ensures)
+
+-- a turn that goes on has read a record
+on : (c : tie.Else1 Inv-loop μ-loop) → On (c .before .before .loop .inv .reading) (c .before .turn .result .read)
+on c = stepped (c .before) .goes (c .if1 .left)
 
 fits : (c : tie.Else1 Inv-loop μ-loop) → Fits (c .before .before .loop .st) (c .before .turn .result .read)
-fits c = let t = c .before .before .before .before .before .before .before .pre in on c (t .edition) (t .all) .fits
+fits c = on c .fits
 
 -- from the points after that back to it
 abbrev looked : tie.After-looked Inv-loop μ-loop → tie.Else1 Inv-loop μ-loop
@@ -61,33 +61,30 @@ kept c = keeps-all _ (c .before .before .looked .ensures) (looked-numbered _ _ _
 
 returns : tie.Need-returns Inv-loop μ-loop
 returns c =
-    let h = c .before .before .before .loop .inv in
-    let u = c .before .before .turn in
-    λ e all. answered (h e all) _ (turn-step (h e all) all (u .result) (u .ensures) .stops (c .before .if1 .taken))
+    answered (c .before .before .before .loop .inv) _ (stepped (c .before .before) .stops (c .before .if1 .taken))
 
 returns-2 : tie.Need-returns-2 Inv-loop μ-loop
 unfolding lastIn
 returns-2 c =
     let o = looked (c .before .before .before) in
     let q = finding-says _ (c .before .before .before .looked .ensures) (c .before .if2 .taken) in
-    rw (c .refused .ensures) (λ e all. answered (o .before .before .loop .inv e all) _ (on o e all .refuses _ _ q))
+    rw (c .refused .ensures) (answered (o .before .before .loop .inv) _ (on o .refuses _ _ q))
 
 returns-3 : tie.Need-returns-3 Inv-loop μ-loop
 returns-3 c =
     let o = asked (c .before .before) in
     rw (c .refused2 .ensures)
-    (λ e all.
-    answered (o .before .before .loop .inv e all) _ (on o e all .full (kept (c .before .before .before)) (c .before .if3 .taken)))
+    (answered (o .before .before .loop .inv) _ (on o .full (kept (c .before .before .before)) (c .before .if3 .taken)))
 
 loop-again : tie.Need-loop-again Inv-loop μ-loop
 unfolding entryOf pastAfter
-loop-again c e all =
+loop-again c =
     let o = written (c .before) in
     let w = c .before .before .before in
     let n = w .before .before .before in
     rw (c .state-after .ensures, w .put-entry .ensures, n .entry-numbers .ensures, n .before .entry-of .ensures)
-    (held-next (o .before .before .loop .inv e all) (o .before .turn .result .read)
-    (on o e all .goes (kept (n .before .before .before .before)) (n .before .before .if3 .left)))
+    (held-next (o .before .before .loop .inv) (o .before .turn .result .read)
+    (on o .goes (kept (n .before .before .before .before)) (n .before .before .if3 .left)))
 
 pub walk-spec : {M : Type 1} → statement M
 unfolding entryNumbers stateAfter
@@ -98,7 +95,7 @@ walk-spec =
     μ-loop
     (λ c κs. search needs)
     (λ c κs. search needs)
-    (λ c e all. held-start (all .sound) (c .before .start .ensures) (c .nothing .ensures))
+    (λ c. held-start (c .before .before .before .before .pre .sound) (c .before .start .ensures) (c .nothing .ensures))
     (λ c κs. close c)
     (λ c. long (c .before .before .before))
     returns

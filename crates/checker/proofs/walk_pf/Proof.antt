@@ -10,11 +10,11 @@ use Rattle.checker.proofs.walk_pf.Statement.{statement}
 use Rattle.checker.proofs.walk_pf.Tie as tie
 
 all : (c : tie.After-pf-table) → let a = c .before .before .before .before .args in
-    SayAll (editionSaid (a .e)) (a .names .now) (c .before .row-table .result) (c .pf-table .result) (a .file .now)
+    SayAll (editionSaid (a .e)) (c .before .row-table .result) (c .pf-table .result) (a .file .now)
 all c =
     let s = c .before .before .before .before in
     let n = editionSays (s .args .e) in
-    say-all n _ (s .pre .0) (c .before .row-table .ensures) (c .pf-table .ensures ∙ ap (belowTable _) (sym (s .pre .1)))
+    say-all n _ (c .before .row-table .ensures) (c .pf-table .ensures ∙ ap (belowTable _) (sym (s .pre)))
 
 pub walk-pf-spec : {M : Type 1} → statement M
 walk-pf-spec =
@@ -22,6 +22,6 @@ walk-pf-spec =
     (tie.spec
     (λ c κs. search needs)
     (λ c κs. search needs)
-    (λ c κs. record { edition = _; all = all (c .before .before .before) })
-    (λ c. let w = c .before .before in judged-length (w .walk .ensures _ (all (w .before .before .before .before))))
-    (λ c. let w = c .before .before in w .walk .ensures _ (all (w .before .before .before .before))))
+    (λ c κs. all (c .before .before .before))
+    (λ c. judged-length (c .before .before .walk .ensures))
+    (λ c. c .before .before .walk .ensures))

@@ -10,11 +10,11 @@ use Rattle.checker.proofs.walk_pj.Statement.{statement}
 use Rattle.checker.proofs.walk_pj.Tie as tie
 
 all : (c : tie.After-pj-table) → let a = c .before .before .before .before .args in
-    SayAll (editionSaid (a .e)) (a .names .now) (c .before .row-table .result) (c .pj-table .result) (a .file .now)
+    SayAll (editionSaid (a .e)) (c .before .row-table .result) (c .pj-table .result) (a .file .now)
 all c =
     let s = c .before .before .before .before in
     let n = editionSays (s .args .e) in
-    say-all n _ (s .pre .0) (c .before .row-table .ensures) (c .pj-table .ensures ∙ sym (other-table n _ (s .pre .1)))
+    say-all n _ (c .before .row-table .ensures) (c .pj-table .ensures ∙ sym (other-table n _ (s .pre)))
 
 pub walk-pj-spec : {M : Type 1} → statement M
 walk-pj-spec =
@@ -22,6 +22,6 @@ walk-pj-spec =
     (tie.spec
     (λ c κs. search needs)
     (λ c κs. search needs)
-    (λ c κs. record { edition = _; all = all (c .before .before .before) })
-    (λ c. let w = c .before .before in judged-length (w .walk .ensures _ (all (w .before .before .before .before))))
-    (λ c. let w = c .before .before in w .walk .ensures _ (all (w .before .before .before .before))))
+    (λ c κs. all (c .before .before .before))
+    (λ c. judged-length (c .before .before .walk .ensures))
+    (λ c. c .before .before .walk .ensures))

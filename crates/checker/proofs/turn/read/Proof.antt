@@ -27,5 +27,5 @@ read-spec =
     let g = c .before .before .before in
     let p = g .before .before .before in
     let a = p .before .before .args in
-    c .go-on .ensures ∙ kept _ (g .filled-found .ensures) (a .st) (went (a .r)) (filled-numbered _ _ _ _ _) (c .before .if2 .left)
+    c .go-on .ensures ∙ kept _ (g .filled-found .ensures) (a .st) (went (a .r)) (filled-numbered _ _ _ _) (c .before .if2 .left)
     ∙ kept _ (p .place-found .ensures) (a .st) _ (place-numbered _ _ _) (g .before .if1 .left)))

@@ -3,7 +3,9 @@ use Prim.Native.Nat.{_<_}
 use mathlib.Core.Path.{sym, subst}
 use borrow.Author.Needs.{needs}
 use Rattle.layout.specs.Tables.{kinds}
-use Rattle.layout.proofs.Laws.{kind-bound}
+use Rattle.layout.proofs.Laws.{kind-small}
+use Rattle.layout.proofs.Editions.{laid-out}
+use Rattle.editions.specs.Editions.{editionSays, editionSaid}
 use Rattle.checker.specs.Turn.{recordOf}
 use Rattle.checker.proofs.turn.record_of.Statement.{statement}
 use Rattle.checker.proofs.turn.record_of.Tie as tie
@@ -24,5 +26,5 @@ record-of-spec =
     let h = c .before .before .before .before .held-at .ensures in
     let k = c .before .before .before .before .before .kind-of .ensures in (
       simp (h .0, k, c .before .before .before .before .before .before .field .ensures .0),
-      (subst (λ x. x < kinds) (sym k) (kind-bound _ _), h .1),
+      (subst (λ x. x < kinds) (sym k) (kind-small _ (laid-out _) _), h .1),
     )))
