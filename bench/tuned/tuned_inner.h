@@ -1,0 +1,82 @@
+/* What the parts of the tuned checker share with each other and with nobody else. */
+#ifndef TUNED_INNER_H
+#define TUNED_INNER_H
+
+#include "tuned.h"
+
+/* The base kinds fit one word of bits. Value kinds come first, so that a small number is one of them. */
+enum kind {
+    RTRT, RTPO, RTDP, RTDS, RTIRF, CJAC, CJAA, ESRT, ESPO, ESDP, ESDS, ESIR, ESDJ,
+    RTPP, RTFA, RTSP, ESPP, ESFA, ESSP, RTPA, ESPA,
+    RIDAC, RIIRP, RIAP, RIMOG, RIP65, RIBMR, RICAP, RIRPC, DAJUD, RISCP,
+    RIL96, RIPTS, RIJMRE, RIRSR, RIO, QTMESES,
+    VALUES,
+    BPFDEC = VALUES, BPJDEC, BPFFCI, BPJFCI, BPFPROC, BPJPROC, BPFRRA, BPFSCP, BPJSCP,
+    IDREC, FCI, PROC, RRA, SCP,
+    DIRF, RESPO, DECPF, DECPJ, FIMDIRF,
+    KINDS,
+    /* bits that no place ever has */
+    LATER = 62, UNKNOWN = 63
+};
+
+enum edition { NEWER, OLDER, EDITIONS };
+
+/* How a field is judged. Those before GENERAL have a quick way of their own. */
+enum op { DONE, AMOUNT, CPF, CNPJ, TEXT, FLAG, DATE, GENERAL, DIGITS = GENERAL, UP_TO, WORD, DDD, PHONE, EITHER };
+
+/* One field, or `count` alike. Values, where there are any, stand one after another, each of the row's size. */
+typedef struct { uint8_t op, size, count, must, values; } row;
+
+extern const row *const tuned_rows[EDITIONS][KINDS];
+extern const char *const tuned_values[];
+
+/* Where a check stands: what is open. An IDREC's place follows that of its block. */
+enum place {
+    FOR_DIRF, FOR_RESPO, FOR_DECLARANT,
+    NO_BLOCK, NO_BLOCK_CODE, IN_FCI, IN_FCI_CODE, IN_PROC, IN_PROC_CODE, IN_RRA, IN_RRA_CODE, IN_SCP,
+    OF_BPFDEC, OF_BPJDEC, OF_BPFFCI, OF_BPJFCI, OF_BPFPROC, OF_BPJPROC, OF_BPFRRA, OF_BPFSCP, OF_BPJSCP,
+    AT_END,
+    PLACES
+};
+
+/* Which kinds may stand next, one bit each: under DECPF, then under DECPJ. */
+extern const uint64_t tuned_next[2][PLACES];
+
+#define BIT(kind) (UINT64_C(1) << (kind))
+
+/* The kind of an identifier of 1 to 7 bytes, the first in the lowest byte of the word; LATER and UNKNOWN too. */
+unsigned tuned_kind(uint64_t word, size_t len);
+
+/* How far the fields of a line passed: at the row DONE all did; else `at` is where the first that did not begins. */
+typedef struct { const row *row; const uint8_t *at; } walk;
+walk tuned_walk(walk from);
+
+typedef struct { uint32_t number, field; } breach;
+
+/* A line that did not pass: what its end, its bars and its first breach give in document 01's order. */
+typedef struct {
+    const uint8_t *line, *end;      /* its begin, and the end of the file */
+    const row *rows;                /* of its kind */
+    walk stop;
+    uint32_t number;                /* 9, 10 or 12, or 0 where it is for the field at the stop to say */
+} stopped;
+breach tuned_settle(const stopped *s);
+
+/* 0, or 13 to 18 of one field. */
+uint32_t tuned_rule(const row *r, const uint8_t *at, size_t len);
+
+/* Year, month, day in eight digits. */
+int tuned_is_date(const uint8_t *at);
+
+/* 0, or the lowest field of a DECPF in which a condition is broken; the line passed 13 to 18. */
+uint32_t tuned_condition(const uint8_t *line);
+
+enum edition tuned_edition(const uint8_t *file, size_t len);
+
+/* The bytes of a file, in one look each. */
+enum byte_class { A_DIGIT, A_CHARACTER, A_BAR, A_LINE_END };
+extern const uint8_t tuned_class[256];
+
+enum { BAR = '|', CR = '\r', LF = '\n' };
+
+#endif

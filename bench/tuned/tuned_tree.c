@@ -1,0 +1,60 @@
+/* Which kinds may stand next at each place, lists 2.1 and 2.2 with document 01's order of blocks and beneficiaries in them. */
+#include "tuned_inner.h"
+
+/* A declaration may end anywhere behind its declarant. */
+#define BEHIND_SCP (BIT(SCP) | BIT(FIMDIRF))
+#define BEHIND_RRA (BIT(IDREC) | BIT(RRA) | BEHIND_SCP)
+#define BEHIND_PROC (BEHIND_RRA | BIT(PROC))
+#define BEHIND_FCI (BEHIND_PROC | BIT(FCI))
+
+#define PAY (BIT(RTRT) | BIT(RTIRF))
+#define PROCESS_PAY \
+    (PAY | BIT(RTPO) | BIT(RTDP) | BIT(RTDS) | BIT(CJAC) | BIT(CJAA) | BIT(ESRT) | BIT(ESPO) | BIT(ESDP) | BIT(ESDS) | BIT(ESIR) \
+     | BIT(ESDJ) | BIT(RIJMRE))
+#define PERSON_PAY (PROCESS_PAY | BIT(RIDAC) | BIT(RIIRP) | BIT(RIAP) | BIT(RIP65) | BIT(RIO))
+#define COMPANY_PERSON_PAY \
+    (PERSON_PAY | BIT(RIMOG) | BIT(RIBMR) | BIT(RICAP) | BIT(RIRPC) | BIT(RIL96) | BIT(RIPTS))
+#define FUND_PAY \
+    (PAY | BIT(CJAC) | BIT(CJAA) | BIT(ESRT) | BIT(ESIR) | BIT(ESDJ) | BIT(RIP65) | BIT(RIMOG) | BIT(RICAP) | BIT(RIO))
+#define COMPANY_PROCESS_PAY \
+    (PROCESS_PAY | BIT(RTPP) | BIT(RTFA) | BIT(RTSP) | BIT(ESPP) | BIT(ESFA) | BIT(ESSP) | BIT(RTPA) | BIT(ESPA) | BIT(RIMOG) \
+     | BIT(RIRSR))
+#define PAST_PAY (PAY | BIT(RTPO) | BIT(DAJUD) | BIT(QTMESES) | BIT(RIJMRE))
+
+const uint64_t tuned_next[2][PLACES] = {
+    {
+        [FOR_DIRF] = BIT(DIRF),
+        [FOR_RESPO] = BIT(RESPO),
+        [FOR_DECLARANT] = BIT(DECPF) | BIT(DECPJ),
+        [NO_BLOCK] = BEHIND_RRA,
+        [NO_BLOCK_CODE] = BEHIND_RRA | BIT(BPFDEC) | BIT(BPJDEC),
+        [OF_BPFDEC] = BEHIND_RRA | BIT(BPFDEC) | BIT(BPJDEC) | PERSON_PAY,
+        [OF_BPJDEC] = BEHIND_RRA | BIT(BPJDEC) | PAY,
+        [IN_RRA] = BEHIND_RRA,
+        [IN_RRA_CODE] = BEHIND_RRA | BIT(BPFRRA),
+        [OF_BPFRRA] = BEHIND_RRA | BIT(BPFRRA) | PAST_PAY,
+        [IN_SCP] = BEHIND_SCP | BIT(BPFSCP) | BIT(BPJSCP),
+        [OF_BPFSCP] = BEHIND_SCP | BIT(BPFSCP) | BIT(BPJSCP) | BIT(RISCP),
+        [OF_BPJSCP] = BEHIND_SCP | BIT(BPJSCP) | BIT(RISCP),
+    },
+    {
+        [NO_BLOCK] = BEHIND_FCI,
+        [NO_BLOCK_CODE] = BEHIND_FCI | BIT(BPFDEC) | BIT(BPJDEC),
+        [OF_BPFDEC] = BEHIND_FCI | BIT(BPFDEC) | BIT(BPJDEC) | COMPANY_PERSON_PAY,
+        [OF_BPJDEC] = BEHIND_FCI | BIT(BPJDEC) | PAY,
+        [IN_FCI] = BEHIND_FCI,
+        [IN_FCI_CODE] = BEHIND_FCI | BIT(BPFFCI) | BIT(BPJFCI),
+        [OF_BPFFCI] = BEHIND_FCI | BIT(BPFFCI) | BIT(BPJFCI) | FUND_PAY,
+        [OF_BPJFCI] = BEHIND_FCI | BIT(BPJFCI) | PAY,
+        [IN_PROC] = BEHIND_PROC,
+        [IN_PROC_CODE] = BEHIND_PROC | BIT(BPFPROC) | BIT(BPJPROC),
+        [OF_BPFPROC] = BEHIND_PROC | BIT(BPFPROC) | BIT(BPJPROC) | COMPANY_PROCESS_PAY,
+        [OF_BPJPROC] = BEHIND_PROC | BIT(BPJPROC) | PAY | BIT(RIRSR),
+        [IN_RRA] = BEHIND_RRA,
+        [IN_RRA_CODE] = BEHIND_RRA | BIT(BPFRRA),
+        [OF_BPFRRA] = BEHIND_RRA | BIT(BPFRRA) | PAST_PAY | BIT(RIMOG) | BIT(RIP65),
+        [IN_SCP] = BEHIND_SCP | BIT(BPFSCP) | BIT(BPJSCP),
+        [OF_BPFSCP] = BEHIND_SCP | BIT(BPFSCP) | BIT(BPJSCP) | BIT(RISCP),
+        [OF_BPJSCP] = BEHIND_SCP | BIT(BPJSCP) | BIT(RISCP),
+    },
+};
