@@ -1,10 +1,12 @@
-/* Holds the C functions of the proved library against the plain checker: archive CASES SEED [wrong | wrong-edition].
-   With `wrong` the plain checker's 16 is taken for 15, with `wrong-edition` its 2022 for 2025, to see that a difference is found and
-   shown. */
+/* Holds the C functions of the proved library, and the bench's tuned checker, against the plain checker:
+   archive CASES SEED [wrong | wrong-edition | wrong-tuned].
+   With `wrong` the plain checker's 16 is taken for 15, with `wrong-edition` its 2022 for 2025, with `wrong-tuned` the tuned checker's 16
+   for 15, to see that a difference is found and shown. */
 #include <stdio.h>
 #include <stdlib.h>
 #include <string.h>
 
+#include "../../bench/tuned/tuned.h"
 #include "../../include/decklesail.h"
 #include "../makers/people.h"
 #include "chance.h"
@@ -18,7 +20,7 @@
 enum { NO_LIMIT = 65536 };
 enum { NONE = 99 };
 
-static int wrong, wrong_edition;
+static int wrong, wrong_edition, wrong_tuned;
 static size_t room;
 static unsigned long differences;
 
@@ -28,6 +30,12 @@ static answer by_library(const uint8_t *file, size_t len)
 {
     return (answer){decklesail_check_number(file, len, room), decklesail_check_line(file, len, room),
                     decklesail_check_field(file, len, room), decklesail_edition(file, len)};
+}
+
+static answer by_tuned(const uint8_t *file, size_t len)
+{
+    tuned_answer a = tuned_check_room(file, len, room);
+    return (answer){wrong_tuned && a.number == 16 ? 15 : a.number, a.line, a.field, a.edition};
 }
 
 static answer by_plain(const uint8_t *file, size_t len)
@@ -42,33 +50,49 @@ static int same(answer a, answer b)
     return a.number == b.number && a.line == b.line && a.field == b.field && a.edition == b.edition;
 }
 
+/* The sides that are held against the plain checker, and the one that a difference is shrunk for. */
+enum { LIBRARY, TUNED, SIDES };
+typedef struct { const char *name; answer (*asked)(const uint8_t *file, size_t len); } side;
+static const side sides[SIDES] = {[LIBRARY] = {"the library", by_library}, [TUNED] = {"the tuned checker", by_tuned}};
+static const side *differing;
+
 static int differs(const uint8_t *file, size_t len)
 {
-    return !same(by_library(file, len), by_plain(file, len));
+    return !same(differing->asked(file, len), by_plain(file, len));
 }
 
-static void report(uint8_t *file, size_t len)
+/* Shrinks a copy, since the other side has still to be asked of the file. */
+static void report(const side *who, const uint8_t *file, size_t len)
 {
     if (++differences > 3)
         return;
-    shrink(file, &len, differs);
-    answer a = by_library(file, len), b = by_plain(file, len);
-    printf("room %zu: the library says %u %u %u by %u, the plain checker %u %u %u by %u, of this file:\n", room, a.number, a.line, a.field,
-           a.edition, b.number, b.line, b.field, b.edition);
-    show(stdout, file, len);
+    uint8_t *small = malloc(len + 1);
+    if (!small)
+        abort();
+    memcpy(small, file, len);
+    differing = who;
+    shrink(small, &len, differs);
+    answer a = who->asked(small, len), b = by_plain(small, len);
+    printf("room %zu: %s says %u %u %u by %u, the plain checker %u %u %u by %u, of this file:\n", room, who->name, a.number, a.line,
+           a.field, a.edition, b.number, b.line, b.field, b.edition);
+    show(stdout, small, len);
+    free(small);
 }
 
-/* Both on one file; gives the library's answer. */
-static answer hold(uint8_t *file, size_t len)
+/* All on one file; gives the library's answer. */
+static answer hold(const uint8_t *file, size_t len)
 {
-    answer a = by_library(file, len);
-    if (!same(a, by_plain(file, len)))
-        report(file, len);
-    return a;
+    answer given[SIDES], plain = by_plain(file, len);
+    for (unsigned i = 0; i < SIDES; i++) {
+        given[i] = sides[i].asked(file, len);
+        if (!same(given[i], plain))
+            report(&sides[i], file, len);
+    }
+    return given[LIBRARY];
 }
 
-/* The same, and counts the number, where it is one that both gave. */
-static answer hold_counted(uint8_t *file, size_t len, met *m)
+/* The same, and counts the number, where it is one that all gave. */
+static answer hold_counted(const uint8_t *file, size_t len, met *m)
 {
     unsigned long before = differences;
     answer a = hold(file, len);
@@ -284,6 +308,7 @@ int main(int argc, char **argv)
     uint64_t seed = argc > 2 ? strtoull(argv[2], NULL, 10) : 1;
     wrong = argc > 3 && strcmp(argv[3], "wrong") == 0;
     wrong_edition = argc > 3 && strcmp(argv[3], "wrong-edition") == 0;
+    wrong_tuned = argc > 3 && strcmp(argv[3], "wrong-tuned") == 0;
     for (unsigned long i = 0; i < cases; i++)
         hold_case(seed * UINT64_C(0x100000000) + i, &m);
     /* after a difference the rest says little more */
