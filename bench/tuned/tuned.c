@@ -3,12 +3,12 @@
 
 #include <string.h>
 
-#include "tuned_inner.h"
-#include "tuned_words.h"
+#include "tuned_fields.h"
+#include "tuned_names.h"
 
 enum { MOST_LINES = 65536, CODE_SIZE = 4 };
 
-/* No line that passes is as long, with all that is read behind a field in one go. */
+/* More than any line that passes has, with the bytes behind its fields that are read along with them. */
 enum { SLACK = 256 };
 
 typedef struct {
@@ -21,9 +21,13 @@ typedef struct {
     unsigned block, person;                             /* the kinds that are open, or KINDS */
     unsigned place;                                     /* the block's */
     int in_tail;
+    uint32_t year;                                      /* the edition's */
 } check;
 
-static const breach none = {0, 0}, repeated = {21, 1}, key_not_greater = {20, 2};
+/* No number of document 01's. */
+enum { ENDED = 99 };
+
+static const breach none = {0, 0}, repeated = {21, 1}, key_not_greater = {20, 2}, ended = {ENDED, 0};
 
 static void stand_at(check *c, unsigned place)
 {
@@ -96,7 +100,7 @@ static breach open_head(check *c, unsigned kind)
     else if (kind == RESPO)
         stand_at(c, FOR_DECLARANT);
     else if (kind == FIMDIRF)
-        stand_at(c, AT_END);
+        return ended;
     else {
         c->next = tuned_next[kind == DECPJ];
         c->place = NO_BLOCK;
@@ -129,15 +133,11 @@ static breach unplaced(const check *c, unsigned kind)
 
 static breach check_line(check *c)
 {
-    uint64_t word = load(c->at), bar = bars(word);
-    if (bar == 0)
-        return unplaced(c, UNKNOWN);
-    size_t through = through_mark(bar);
-    unsigned kind = tuned_kind(word & below_mark(bar) >> 7, through - 1);
+    unsigned kind = kind_of(c->at);
     if (!(c->may >> kind & 1))
         return unplaced(c, kind);
-    const uint8_t *key = c->at + through;
-    walk w = tuned_walk((walk){c->rows[kind], key});
+    const uint8_t *key = c->at + name_len[kind] + 1;
+    walk w = pass_fields((walk){c->rows[kind], key});
     if (w.row->op != DONE || w.at[0] != CR || w.at[1] != LF)
         return tuned_settle(&(stopped){c->at, c->end, c->rows[kind], w, 0});
     breach found = open_record(c, kind, key);
@@ -159,31 +159,40 @@ static int near_end(check *c, uint8_t *tail)
     return left == 0;
 }
 
-static check begin(const uint8_t *file, size_t len, enum edition edition)
+static check begin(const uint8_t *file, size_t len)
 {
-    check c = {.at = file, .end = file + len, .may = BIT(DIRF), .block = KINDS, .person = KINDS, .next = tuned_next[0]};
+    enum edition edition = tuned_edition(file, len);
+    check c = {.at = file, .end = file + len, .may = tuned_next[0][FOR_DIRF], .block = KINDS, .person = KINDS, .next = tuned_next[0]};
     c.known = edition == NEWER ? ~UINT64_C(0) : ~(BIT(RTDS) | BIT(ESDS));
     c.rows = tuned_rows[edition];
+    c.year = edition == NEWER ? 2025 : 2022;
     return c;
+}
+
+/* The answer where a line did not pass, or where it is the last. */
+static tuned_answer at_line(const check *c, breach found, uint32_t line, size_t room)
+{
+    if (found.number != ENDED)
+        return (tuned_answer){found.number, line, found.field, c->year};
+    if (line > room)
+        return (tuned_answer){7, line, 0, c->year};
+    return c->at == c->end ? (tuned_answer){0, line, 0, c->year} : (tuned_answer){2, line + 1, 0, c->year};
 }
 
 tuned_answer tuned_check_room(const uint8_t *file, size_t len, size_t room)
 {
     uint8_t tail[2 * SLACK], no_byte = 0;
-    enum edition edition = tuned_edition(file, len);
-    uint32_t year = edition == NEWER ? 2025 : 2022;
-    check c = begin(len > 0 ? file : &no_byte, len, edition);
-    for (uint32_t line = 1;; line++) {
+    check c = begin(len > 0 ? file : &no_byte, len);
+    /* the line that the room is too short for is looked at too, since its own fault comes first */
+    uint32_t last = room < MOST_LINES ? (uint32_t)room + 1 : MOST_LINES;
+    for (uint32_t line = 1; line <= last; line++) {
         if (c.end - c.at < SLACK && near_end(&c, tail))
-            return (tuned_answer){c.may == 0 ? 0 : 1, c.may == 0 ? line - 1 : line, 0, year};
-        if (c.may == 0)
-            return (tuned_answer){2, line, 0, year};
-        if (line > MOST_LINES)
-            return (tuned_answer){3, line, 0, year};
+            return (tuned_answer){1, line, 0, c.year};
         breach found = check_line(&c);
         if (found.number != 0)
-            return (tuned_answer){found.number, line, found.field, year};
-        if (line > room)
-            return (tuned_answer){7, line, 0, year};
+            return at_line(&c, found, line, room);
     }
+    if (room < MOST_LINES)
+        return (tuned_answer){7, last, 0, c.year};
+    return (tuned_answer){c.at == c.end ? 1 : 3, MOST_LINES + 1, 0, c.year};
 }

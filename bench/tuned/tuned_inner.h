@@ -21,8 +21,8 @@ enum kind {
 
 enum edition { NEWER, OLDER, EDITIONS };
 
-/* How a field is judged. Those before GENERAL have a quick way of their own. */
-enum op { DONE, AMOUNT, CPF, CNPJ, TEXT, FLAG, DATE, GENERAL, DIGITS = GENERAL, UP_TO, WORD, DDD, PHONE, EITHER };
+/* How a field is judged; DUE is an amount that must be filled. Those before GENERAL have a quick way of their own. */
+enum op { DONE, AMOUNT, DUE, CPF, CNPJ, TEXT, FLAG, DATE, GENERAL, DIGITS = GENERAL, UP_TO, WORD, DDD, PHONE, EITHER };
 
 /* One field, or `count` alike. Values, where there are any, stand one after another, each of the row's size. */
 typedef struct { uint8_t op, size, count, must, values; } row;
@@ -35,7 +35,6 @@ enum place {
     FOR_DIRF, FOR_RESPO, FOR_DECLARANT,
     NO_BLOCK, NO_BLOCK_CODE, IN_FCI, IN_FCI_CODE, IN_PROC, IN_PROC_CODE, IN_RRA, IN_RRA_CODE, IN_SCP,
     OF_BPFDEC, OF_BPJDEC, OF_BPFFCI, OF_BPJFCI, OF_BPFPROC, OF_BPJPROC, OF_BPFRRA, OF_BPFSCP, OF_BPJSCP,
-    AT_END,
     PLACES
 };
 
@@ -44,12 +43,8 @@ extern const uint64_t tuned_next[2][PLACES];
 
 #define BIT(kind) (UINT64_C(1) << (kind))
 
-/* The kind of an identifier of 1 to 7 bytes, the first in the lowest byte of the word; LATER and UNKNOWN too. */
-unsigned tuned_kind(uint64_t word, size_t len);
-
 /* How far the fields of a line passed: at the row DONE all did; else `at` is where the first that did not begins. */
 typedef struct { const row *row; const uint8_t *at; } walk;
-walk tuned_walk(walk from);
 
 typedef struct { uint32_t number, field; } breach;
 

@@ -42,8 +42,8 @@ static const row bpfrra[] = {A_CPF, NAME(60), NOTE(50), A_DATE, FLAGS(1), LAST};
 static const row bpfscp[] = {A_CPF, NAME(60), {UP_TO, 4, 1, MAY, ANY}, LAST};
 static const row bpjscp[] = {A_CNPJ, NAME(150), NOTE(4), LAST};
 static const row monthly[] = {{AMOUNT, 13, 13, MAY, ANY}, LAST};
-static const row yearly[] = {{AMOUNT, 13, 1, MUST, ANY}, LAST};
-static const row rio[] = {{AMOUNT, 13, 1, MUST, ANY}, NAME(60), LAST};
+static const row yearly[] = {{DUE, 13, 1, MUST, ANY}, LAST};
+static const row rio[] = {{DUE, 13, 1, MUST, ANY}, NAME(60), LAST};
 static const row qtmeses[] = {{AMOUNT, 4, 12, MAY, ANY}, LAST};
 static const row fimdirf[] = {LAST};
 

@@ -27,7 +27,7 @@ static int digits_only(const uint8_t *at, size_t len)
 static int size_right(const row *r, size_t len)
 {
     switch (r->op) {
-    case AMOUNT: case TEXT: case UP_TO: return len <= r->size;
+    case AMOUNT: case DUE: case TEXT: case UP_TO: return len <= r->size;
     case PHONE: return len == 8 || len == 9;
     case EITHER: return len == 11 || len == 14;
     default: return len == r->size;
@@ -62,7 +62,7 @@ uint32_t tuned_rule(const row *r, const uint8_t *at, size_t len)
         return 14;
     if (!size_right(r, len))
         return 15;
-    if ((r->op == AMOUNT || r->op == DDD) && at[0] == '0')
+    if ((r->op == AMOUNT || r->op == DUE || r->op == DDD) && at[0] == '0')
         return 16;
     if (r->op == DATE && !tuned_is_date(at))
         return 17;

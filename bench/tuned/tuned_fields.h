@@ -1,4 +1,8 @@
-/* The fields of a line, each judged as it ends. Every line has bytes behind it that may be read, so no end is asked for here. */
+/* The fields of a line, each judged as it ends. Every line has bytes behind it that may be read, so no end is asked for here.
+   A header, so that it is compiled into the one loop over the lines. */
+#ifndef TUNED_FIELDS_H
+#define TUNED_FIELDS_H
+
 #include "tuned_inner.h"
 #include "tuned_words.h"
 
@@ -44,11 +48,12 @@ static inline int text(const uint8_t **at, const row *r)
 
 static inline int flags(const uint8_t **at, unsigned left)
 {
-    const uint8_t *p = *at;
-    for (; left > 0 && (p[0] == 'S' || p[0] == 'N') && p[1] == BAR; left--)
-        p += 2;
-    *at = p;
-    return left == 0;
+    for (; left > 0; left--, *at += 2) {
+        unsigned pair = (*at)[0] | (unsigned)(*at)[1] << 8;
+        if (pair != ('N' | BAR << 8) && pair != ('S' | BAR << 8))
+            return 0;
+    }
+    return 1;
 }
 
 static inline int date(const uint8_t **at)
@@ -64,7 +69,7 @@ static inline int date(const uint8_t **at)
     return 1;
 }
 
-/* An amount that is filled: digits up to a bar, at most so many, and no zero in front. */
+/* An amount that is filled: digits up to a bar, at most so many, and no zero in front. The word is its first eight bytes. */
 static inline int amount(const uint8_t **at, uint64_t word, unsigned size)
 {
     const uint8_t *p = *at;
@@ -76,7 +81,7 @@ static inline int amount(const uint8_t **at, uint64_t word, unsigned size)
             return 0;
     }
     p += through_mark(marks);
-    if (p[-1] != BAR || (size_t)(p - *at) > size + 1u || (unsigned)**at - '1' > 8)
+    if (p[-1] != BAR || p > *at + size + 1 || (word & 0xff) - '1' > 8)
         return 0;
     *at = p;
     return 1;
@@ -86,9 +91,9 @@ static inline int amount(const uint8_t **at, uint64_t word, unsigned size)
 static inline int amounts(const uint8_t **at, const row *r)
 {
     unsigned left = r->count;
-    while (left > 0) {
+    do {
         uint64_t word = load(*at);
-        if (**at == BAR && !r->must) {
+        if ((word & 0xff) == BAR) {
             unsigned empty = leading_bars(word);
             empty = empty < left ? empty : left;
             left -= empty;
@@ -98,37 +103,44 @@ static inline int amounts(const uint8_t **at, const row *r)
                 return 0;
             left--;
         }
-    }
+    } while (left > 0);
     return 1;
 }
 
-static int general(const uint8_t **at, const row *r)
+/* The rarer fields; where the next begins, or NULL. */
+static const uint8_t *general(const uint8_t *p, const row *r)
 {
-    const uint8_t *p = end_of_text(*at, *at + r->size);
-    if (*p != BAR || tuned_rule(r, *at, (size_t)(p - *at)) != 0)
-        return 0;
-    *at = p + 1;
-    return 1;
+    const uint8_t *end = end_of_text(p, p + r->size);
+    return *end == BAR && tuned_rule(r, p, (size_t)(end - p)) == 0 ? end + 1 : NULL;
 }
 
-static inline int pass(const uint8_t **at, const row *r)
+static inline int other(const uint8_t **at, const row *r)
 {
-    switch (r->op) {
-    case AMOUNT: return amounts(at, r);
-    case CPF: return digits(at, 11);
-    case CNPJ: return digits(at, 14);
-    case TEXT: return text(at, r);
-    case FLAG: return flags(at, r->count);
-    case DATE: return date(at);
-    default: return general(at, r);
-    }
+    const uint8_t *next = **at == BAR && !r->must ? *at + 1 : general(*at, r);
+    *at = next == NULL ? *at : next;
+    return next != NULL;
 }
 
-walk tuned_walk(walk w)
+/* Goes through the rows for as long as their fields pass. */
+static inline walk pass_fields(walk w)
 {
     const uint8_t *at = w.at;
     const row *r = w.row;
-    while (r->op != DONE && pass(&at, r))
-        r++;
-    return (walk){r, at};
+    for (int passes = 1;; r++) {
+        switch (r->op) {
+        case AMOUNT: passes = amounts(&at, r); break;
+        case DUE: passes = amount(&at, load(at), r->size); break;
+        case CPF: passes = digits(&at, 11); break;
+        case CNPJ: passes = digits(&at, 14); break;
+        case TEXT: passes = text(&at, r); break;
+        case FLAG: passes = flags(&at, r->count); break;
+        case DATE: passes = date(&at); break;
+        case DONE: passes = 0; break;
+        default: passes = other(&at, r); break;
+        }
+        if (!passes)
+            return (walk){r, at};
+    }
 }
+
+#endif
