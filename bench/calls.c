@@ -7,6 +7,7 @@
 
 #include "../include/decklesail.h"
 #include "../tests/plain/plain.h"
+#include "tuned/tuned.h"
 
 static uint32_t nothing(const uint8_t *file, size_t len, size_t room)
 {
@@ -34,10 +35,15 @@ static uint32_t plain(const uint8_t *file, size_t len, size_t room)
     return plain_check_room(file, len, room).number;
 }
 
+static uint32_t tuned(const uint8_t *file, size_t len, size_t room)
+{
+    return tuned_check_room(file, len, room).number;
+}
+
 call call_named(const char *name)
 {
     static const struct { const char *name; call call; } calls[] = {
-        {"nothing", nothing}, {"floor", line_ends}, {"plain", plain}, {"archive", decklesail_check_number},
+        {"nothing", nothing}, {"floor", line_ends}, {"tuned", tuned}, {"plain", plain}, {"archive", decklesail_check_number},
     };
     for (size_t i = 0; i < sizeof calls / sizeof *calls; i++)
         if (strcmp(calls[i].name, name) == 0)

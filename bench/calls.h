@@ -8,9 +8,12 @@
 /* the most lines that a file may have, so that room is never short */
 enum { ROOM = 65536 };
 
+/* how often each call is timed; the quickest counts */
+enum { ROUNDS = 61 };
+
 typedef uint32_t (*call)(const uint8_t *file, size_t len, size_t room);
 
-/* "nothing", "floor", "plain" or "archive"; exits at another name. */
+/* "nothing", "floor", "tuned", "plain" or "archive"; exits at another name. */
 call call_named(const char *name);
 
 /* How many line ends a file has: the least that any check has to look for. */

@@ -6,12 +6,13 @@
 #include <stdio.h>
 
 enum measure { INSTRUCTIONS, NANOSECONDS, STACK, BYTES, MEASURES };
-enum which { NOTHING, FLOOR, PLAIN, ARCHIVE, WHICHES };
+enum which { NOTHING, FLOOR, TUNED, PLAIN, ARCHIVE, WHICHES };
 enum size { SIZE_600, SIZE_6000, SIZE_60000, SIZES };
 /* short, long, scp and older, each accepted and refused */
 enum { INPUTS = 8 };
 
-typedef struct { uint64_t value[MEASURES][INPUTS][SIZES][WHICHES]; } figures;
+/* Emulated seconds are only ratios. */
+typedef struct { uint64_t value[MEASURES][INPUTS][SIZES][WHICHES]; int emulated; } figures;
 
 extern const char *const input_names[INPUTS];
 extern const char *const which_names[WHICHES];
@@ -30,8 +31,8 @@ double ratio(const figures *f, int input, enum size size, enum which other);
 /* Instructions per line at 60,000 lines over those at 6,000. */
 double growth(const figures *f, int input, enum which which);
 
-/* The archive's seconds over the plain checker's. */
-double seconds_ratio(const figures *f, int input, enum size size);
+/* The archive's seconds over another call's. */
+double seconds_ratio(const figures *f, int input, enum size size, enum which other);
 
 /* The most that any input took, less what an empty call takes. */
 uint64_t peak_stack(const figures *f, enum which which);

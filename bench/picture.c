@@ -1,21 +1,21 @@
-/* Draws the measured figures as an SVG: the three calls side by side, and the archive at three sizes. */
+/* Draws the measured figures as an SVG: the four calls side by side, and the archive at three sizes. */
 #include "picture.h"
 
 #include <math.h>
 
 #include "targets.h"
 
-enum { WIDTH = 1620, HEIGHT = 700, LEFT = 80, RIGHT = 1600, PLOT = 190, BARS = 3, STEPS = 4 };
-enum { BAR_WIDTH = 46, BAR_STEP = 52 };
+enum { WIDTH = 1620, HEIGHT = 700, LEFT = 80, RIGHT = 1600, PLOT = 190, STEPS = 4 };
+enum { MOST_BARS = 4, BAR_GAP = 6, GROUP_GAP = 30, UNDER_LINES = 2 };
 
-/* One chart: three bars for each input, with what to call them. */
+/* One chart: so many bars for each input, with what to call them, and lines of text under each input. */
 typedef struct {
     const char *title;
-    const char *legend[BARS];
-    const char *colour[BARS];
-    double value[INPUTS][BARS];
-    char under[INPUTS][48];
-    int top;
+    int bars, top;
+    const char *legend[MOST_BARS];
+    const char *colour[MOST_BARS];
+    double value[INPUTS][MOST_BARS];
+    char under[INPUTS][UNDER_LINES][48];
 } chart;
 
 static void text(FILE *to, double x, double y, const char *more, const char *what)
@@ -38,7 +38,7 @@ static double highest(const chart *c)
 {
     double most = 1;
     for (int i = 0; i < INPUTS; i++)
-        for (int b = 0; b < BARS; b++)
+        for (int b = 0; b < c->bars; b++)
             most = fmax(most, c->value[i][b]);
     return most;
 }
@@ -59,7 +59,7 @@ static void draw_axis(FILE *to, const chart *c, double step)
 
 static void draw_legend(FILE *to, const chart *c)
 {
-    for (int b = 0; b < BARS; b++) {
+    for (int b = 0; b < c->bars; b++) {
         double x = LEFT + 130.0 * b, y = c->top - 34;
         fprintf(to, "<rect x=\"%.1f\" y=\"%.1f\" width=\"12\" height=\"12\" fill=\"%s\"/>\n", x, y, c->colour[b]);
         text(to, x + 18, y + 10.5, "", c->legend[b]);
@@ -70,16 +70,18 @@ static void draw_group(FILE *to, const chart *c, int input, double top_value)
 {
     char label[32];
     double wide = (double)(RIGHT - LEFT) / INPUTS, middle = LEFT + wide * (input + 0.5);
-    for (int b = 0; b < BARS; b++) {
-        double centre = middle + (b - 1) * BAR_STEP, tall = PLOT * c->value[input][b] / top_value, y = c->top + PLOT - tall;
-        fprintf(to, "<rect x=\"%.1f\" y=\"%.1f\" width=\"%d\" height=\"%.1f\" fill=\"%s\"/>\n",
-                centre - BAR_WIDTH / 2.0, y, BAR_WIDTH, tall, c->colour[b]);
+    double step = (wide - GROUP_GAP) / c->bars, thick = step - BAR_GAP;
+    for (int b = 0; b < c->bars; b++) {
+        double centre = middle + (b - (c->bars - 1) / 2.0) * step, tall = PLOT * c->value[input][b] / top_value, y = c->top + PLOT - tall;
+        fprintf(to, "<rect x=\"%.1f\" y=\"%.1f\" width=\"%.1f\" height=\"%.1f\" fill=\"%s\"/>\n",
+                centre - thick / 2, y, thick, tall, c->colour[b]);
         snprintf(label, sizeof label, "%.0f", c->value[input][b]);
         /* a white rim, so that no grid line runs through the number */
         text(to, centre, y - 4, "text-anchor=\"middle\" stroke=\"#fff\" stroke-width=\"3\" paint-order=\"stroke\"", label);
     }
     text(to, middle, c->top + PLOT + 18, "text-anchor=\"middle\" font-weight=\"bold\"", input_names[input]);
-    text(to, middle, c->top + PLOT + 34, "text-anchor=\"middle\"", c->under[input]);
+    for (int i = 0; i < UNDER_LINES && c->under[input][i][0] != 0; i++)
+        text(to, middle, c->top + PLOT + 34 + 16 * i, "text-anchor=\"middle\"", c->under[input][i]);
 }
 
 static void draw_chart(FILE *to, const chart *c)
@@ -94,17 +96,20 @@ static void draw_chart(FILE *to, const chart *c)
 
 static void draw_calls(const figures *f, FILE *to)
 {
-    static const enum which order[BARS] = {ARCHIVE, PLAIN, FLOOR};
     chart c = {
-        .title = "One check of 60,000 lines (target: archive / plain at most what stands in brackets)",
-        .legend = {"archive", "plain checker", "floor (line ends)"},
-        .colour = {"#1f5fa8", "#e08a1e", "#8a8a8a"},
+        .bars = 4,
         .top = 110,
+        .legend = {"archive", "plain checker", "tuned checker", "floor (line ends)"},
+        .colour = {"#1f5fa8", "#e08a1e", "#3f9e6b", "#8a8a8a"},
     };
+    char title[80];
+    snprintf(title, sizeof title, "One check of 60,000 lines (target: archive / plain at most %.1f)", most_ratio);
+    c.title = title;
     for (int i = 0; i < INPUTS; i++) {
-        for (int b = 0; b < BARS; b++)
-            c.value[i][b] = per_line(f, i, SIZE_60000, order[b]);
-        snprintf(c.under[i], sizeof c.under[i], "archive / plain: %.3f (%.2f)", ratio(f, i, SIZE_60000, PLAIN), most_ratio[i]);
+        for (int b = 0; b < c.bars; b++)
+            c.value[i][b] = per_line(f, i, SIZE_60000, (enum which)(ARCHIVE - b));
+        snprintf(c.under[i][0], sizeof c.under[i][0], "archive / plain: %.3f", ratio(f, i, SIZE_60000, PLAIN));
+        snprintf(c.under[i][1], sizeof c.under[i][1], "archive / tuned: %.2f", ratio(f, i, SIZE_60000, TUNED));
     }
     draw_chart(to, &c);
 }
@@ -112,15 +117,18 @@ static void draw_calls(const figures *f, FILE *to)
 static void draw_sizes(const figures *f, FILE *to)
 {
     chart c = {
-        .title = "The archive as the file grows (target: 60,000 / 6,000 at most 1.05)",
+        .bars = SIZES,
+        .top = 460,
         .legend = {"600 lines", "6,000 lines", "60,000 lines"},
         .colour = {"#a9c8ec", "#5c94d2", "#1f5fa8"},
-        .top = 440,
     };
+    char title[80];
+    snprintf(title, sizeof title, "The archive as the file grows (target: 60,000 / 6,000 at most %.2f)", most_growth);
+    c.title = title;
     for (int i = 0; i < INPUTS; i++) {
-        for (int b = 0; b < BARS; b++)
+        for (int b = 0; b < c.bars; b++)
             c.value[i][b] = per_line(f, i, (enum size)b, ARCHIVE);
-        snprintf(c.under[i], sizeof c.under[i], "60,000 / 6,000: %.4f", growth(f, i, ARCHIVE));
+        snprintf(c.under[i][0], sizeof c.under[i][0], "60,000 / 6,000: %.4f", growth(f, i, ARCHIVE));
     }
     draw_chart(to, &c);
 }

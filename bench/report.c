@@ -1,5 +1,6 @@
-/* report PICTURE SECONDS < FIGURES
-   Prints the measured figures as text and writes them as a picture. Fails where a figure is missing or a target is missed. */
+/* report PICTURE real|emulated < FIGURES
+   Prints the measured figures as text and writes them as a picture; the word says what the seconds are. Fails where a figure is missing
+   or a target is missed. */
 #include <stdio.h>
 #include <string.h>
 
@@ -21,15 +22,16 @@ int main(int argc, char **argv)
 {
     static figures f;
     if (argc < 3) {
-        fprintf(stderr, "report PICTURE SECONDS < FIGURES\n");
+        fprintf(stderr, "report PICTURE real|emulated < FIGURES\n");
         return 2;
     }
     if (!figures_read(&f, stdin)) {
         fprintf(stderr, "report: a figure is missing or not known\n");
         return 2;
     }
-    table_print(&f, argv[2]);
-    int met = targets_print(&f, argv[2]);
+    f.emulated = strcmp(argv[2], "real") != 0;
+    table_print(&f);
+    int met = targets_print(&f);
     if (!write_picture(&f, argv[1])) {
         fprintf(stderr, "report: cannot write %s\n", argv[1]);
         return 2;

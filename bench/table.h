@@ -4,7 +4,6 @@
 
 #include "figures.h"
 
-/* What the seconds are: "emulated seconds" or "seconds". */
-void table_print(const figures *f, const char *seconds);
+void table_print(const figures *f);
 
 #endif

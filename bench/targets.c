@@ -1,12 +1,11 @@
-/* Prints the targets and whether each is met, and then the aims, which fail nothing. */
+/* Prints the targets and whether each is met. */
 #include "targets.h"
 
 #include <inttypes.h>
 
-/* in the order of the inputs: short, long, scp, older */
-const double most_ratio[INPUTS] = {1.2, 1.2, 1.0, 1.0, 1.35, 1.35, 1.2, 1.2}, most_growth = 1.05;
-static const uint64_t most_stack = 16384;
-static const double aimed_seconds = 1.2;
+const double most_ratio = 1.0, most_growth = 1.05;
+static const double most_seconds = 1.1;
+static const uint64_t most_stack = 15360;
 
 static const char *verdict(int met)
 {
@@ -16,10 +15,23 @@ static const char *verdict(int met)
 static int print_input(const figures *f, int input)
 {
     double r = ratio(f, input, SIZE_60000, PLAIN), g = growth(f, input, ARCHIVE);
-    int cheap = r <= most_ratio[input], even = g <= most_growth;
-    printf("%-15s archive/plain at 60,000 lines %.3f, at most %.2f: %s\n", input_names[input], r, most_ratio[input], verdict(cheap));
+    int cheap = r <= most_ratio, even = g <= most_growth;
+    printf("%-15s archive/plain at 60,000 lines %.3f, at most %.2f: %s\n", input_names[input], r, most_ratio, verdict(cheap));
     printf("%-15s growth of the archive %.4f, at most %.2f: %s\n", input_names[input], g, most_growth, verdict(even));
     return cheap && even;
+}
+
+/* Emulated seconds say more of the emulator than of the calls, so they have no target. */
+static int print_seconds_target(const figures *f, int input)
+{
+    double r = seconds_ratio(f, input, SIZE_60000, PLAIN);
+    int quick = f->emulated || r <= most_seconds;
+    if (f->emulated)
+        printf("%-15s archive/plain at 60,000 lines in emulated seconds %.2f, no target\n", input_names[input], r);
+    else
+        printf("%-15s archive/plain at 60,000 lines in seconds %.2f, at most %.2f: %s\n", input_names[input], r, most_seconds,
+               verdict(quick));
+    return quick;
 }
 
 static int print_stack_target(const figures *f)
@@ -30,23 +42,14 @@ static int print_stack_target(const figures *f)
     return small;
 }
 
-/* Seconds differ from run to run and from machine to machine, so that they are no target. */
-static void print_aims(const figures *f, const char *seconds)
-{
-    printf("\nAims, which fail nothing: archive/plain at 60,000 lines in %s\n\n", seconds);
-    for (int i = 0; i < INPUTS; i++) {
-        double r = seconds_ratio(f, i, SIZE_60000);
-        printf("%-15s %.2f, aim %.2f: %s\n", input_names[i], r, aimed_seconds, r <= aimed_seconds ? "reached" : "not reached");
-    }
-}
-
-int targets_print(const figures *f, const char *seconds)
+int targets_print(const figures *f)
 {
     int all = 1;
     printf("\nTargets\n\n");
     for (int i = 0; i < INPUTS; i++)
         all &= print_input(f, i);
+    for (int i = 0; i < INPUTS; i++)
+        all &= print_seconds_target(f, i);
     all &= print_stack_target(f);
-    print_aims(f, seconds);
     return all;
 }
