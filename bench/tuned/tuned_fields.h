@@ -38,9 +38,12 @@ static inline int text(const uint8_t **at, const row *r)
     }
     p += through_mark(marks) - 1;
     /* a control byte may stand in a text, but for CR and LF */
-    if (*p != BAR)
+    if (*p != BAR) {
         p = end_of_text(p, most);
-    if (p > most || *p != BAR || (p == *at && r->must))
+        if (*p != BAR)
+            return 0;
+    }
+    if (p > most || (p == *at && r->must))
         return 0;
     *at = p + 1;
     return 1;
@@ -69,7 +72,7 @@ static inline int date(const uint8_t **at)
     return 1;
 }
 
-/* An amount that is filled: digits up to a bar, at most so many, and no zero in front. The word is its first eight bytes. */
+/* An amount that is not empty: digits up to a bar, at most so many, and no zero in front. The word is its first eight bytes. */
 static inline int amount(const uint8_t **at, uint64_t word, unsigned size)
 {
     const uint8_t *p = *at;
@@ -81,10 +84,17 @@ static inline int amount(const uint8_t **at, uint64_t word, unsigned size)
             return 0;
     }
     p += through_mark(marks);
-    if (p[-1] != BAR || p > *at + size + 1 || (word & 0xff) - '1' > 8)
+    if (p[-1] != BAR || p > *at + size + 1 || (word & 0xff) == '0')
         return 0;
     *at = p;
     return 1;
+}
+
+/* An amount that must be filled. */
+static inline int due(const uint8_t **at, unsigned size)
+{
+    uint64_t word = load(*at);
+    return (word & 0xff) != BAR && amount(at, word, size);
 }
 
 /* All amounts of a row. Empty ones, a bar each, are passed over as many at a time as stand together. */
@@ -126,10 +136,11 @@ static inline walk pass_fields(walk w)
 {
     const uint8_t *at = w.at;
     const row *r = w.row;
-    for (int passes = 1;; r++) {
+    for (;; r++) {
+        int passes;
         switch (r->op) {
         case AMOUNT: passes = amounts(&at, r); break;
-        case DUE: passes = amount(&at, load(at), r->size); break;
+        case DUE: passes = due(&at, r->size); break;
         case CPF: passes = digits(&at, 11); break;
         case CNPJ: passes = digits(&at, 14); break;
         case TEXT: passes = text(&at, r); break;
