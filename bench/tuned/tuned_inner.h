@@ -48,13 +48,15 @@ typedef struct { const row *row; const uint8_t *at; } walk;
 
 typedef struct { uint32_t number, field; } breach;
 
-/* A line that did not pass: what its end, its bars and its first breach give in document 01's order. */
+/* A line that did not pass, and its first breach or the place of it. */
 typedef struct {
     const uint8_t *line, *end;      /* its begin, and the end of the file */
     const row *rows;                /* of its kind */
     walk stop;
     uint32_t number;                /* 9, 10 or 12, or 0 where it is for the field at the stop to say */
 } stopped;
+
+/* Looks on to the line's end, which may give a number that comes before the breach in document 01's order. */
 breach tuned_settle(const stopped *s);
 
 /* 0, or 13 to 18 of one field. */
@@ -68,8 +70,8 @@ uint32_t tuned_condition(const uint8_t *line);
 
 enum edition tuned_edition(const uint8_t *file, size_t len);
 
-/* The bytes of a file, in one look each. */
-enum byte_class { A_DIGIT, A_CHARACTER, A_BAR, A_LINE_END };
+/* What a byte is, in one look; the first two may stand in a text. */
+enum byte_class { A_CHARACTER, A_DIGIT, A_BAR, A_LINE_END };
 extern const uint8_t tuned_class[256];
 
 enum { BAR = '|', CR = '\r', LF = '\n' };

@@ -7,14 +7,8 @@
 enum { MOST_BYTES = 1024, MARK_FIELD = 6, MARK_SIZE = 7 };
 
 const uint8_t tuned_class[256] = {
-#define FOUR_CHARACTERS A_CHARACTER, A_CHARACTER, A_CHARACTER, A_CHARACTER
-#define SIXTEEN FOUR_CHARACTERS, FOUR_CHARACTERS, FOUR_CHARACTERS, FOUR_CHARACTERS
-    FOUR_CHARACTERS, FOUR_CHARACTERS, A_CHARACTER, A_CHARACTER, A_LINE_END, A_CHARACTER, A_CHARACTER, A_LINE_END, A_CHARACTER, A_CHARACTER,
-    SIXTEEN, SIXTEEN,
-    A_DIGIT, A_DIGIT, A_DIGIT, A_DIGIT, A_DIGIT, A_DIGIT, A_DIGIT, A_DIGIT, A_DIGIT, A_DIGIT, A_CHARACTER, A_CHARACTER, FOUR_CHARACTERS,
-    SIXTEEN, SIXTEEN, SIXTEEN,
-    FOUR_CHARACTERS, FOUR_CHARACTERS, FOUR_CHARACTERS, A_BAR, A_CHARACTER, A_CHARACTER, A_CHARACTER,
-    SIXTEEN, SIXTEEN, SIXTEEN, SIXTEEN, SIXTEEN, SIXTEEN, SIXTEEN, SIXTEEN,
+    ['0'] = A_DIGIT, ['1'] = A_DIGIT, ['2'] = A_DIGIT, ['3'] = A_DIGIT, ['4'] = A_DIGIT, ['5'] = A_DIGIT, ['6'] = A_DIGIT, ['7'] = A_DIGIT,
+    ['8'] = A_DIGIT, ['9'] = A_DIGIT, [BAR] = A_BAR, [CR] = A_LINE_END, [LF] = A_LINE_END,
 };
 
 static int digits_only(const uint8_t *at, size_t len)
@@ -41,7 +35,7 @@ int tuned_is_date(const uint8_t *at)
     unsigned month = at[4] * 10u + at[5] - '0' * 11, day = at[6] * 10u + at[7] - '0' * 11;
     if (century - 19 > 1 || month - 1 > 11 || day - 1 >= days[month])
         return 0;
-    /* of the two centuries only 1900 is no leap year that the last two bits do not show */
+    /* in these two centuries every fourth year is a leap year, but for 1900 */
     return month != 2 || day != 29 || (year % 4 == 0 && (year != 0 || century == 20));
 }
 
