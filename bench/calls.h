@@ -8,9 +8,6 @@
 /* the most lines that a file may have, so that room is never short */
 enum { ROOM = 65536 };
 
-/* how often each call is timed; the quickest counts */
-enum { ROUNDS = 61 };
-
 typedef uint32_t (*call)(const uint8_t *file, size_t len, size_t room);
 
 /* "nothing", "floor", "tuned", "plain" or "archive"; exits at another name. */

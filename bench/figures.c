@@ -47,8 +47,10 @@ int figures_read(figures *f, FILE *from)
         uint64_t *to = slot(f, measure, input, lines, which);
         if (to == NULL)
             return 0;
-        *to = value;
-        read++;
+        /* none that was measured is 0 */
+        read += *to == 0;
+        if (*to == 0 || value < *to)
+            *to = value;
     }
     /* the empty call is not timed, and the bytes, which are the file's, stand under it alone */
     return read == INPUTS * SIZES * (MEASURES - 1) * WHICHES;

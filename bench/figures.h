@@ -11,14 +11,19 @@ enum size { SIZE_600, SIZE_6000, SIZE_60000, SIZES };
 /* short, long, scp and older, each accepted and refused */
 enum { INPUTS = 8 };
 
-/* Emulated seconds are only ratios. */
-typedef struct { uint64_t value[MEASURES][INPUTS][SIZES][WHICHES]; int emulated; } figures;
+/* The seconds are those of the quickest of so many calls that were timed; emulated ones are only ratios. */
+typedef struct {
+    uint64_t value[MEASURES][INPUTS][SIZES][WHICHES];
+    unsigned timed;
+    int emulated;
+} figures;
 
 extern const char *const input_names[INPUTS];
 extern const char *const which_names[WHICHES];
 extern const unsigned size_lines[SIZES];
 
-/* Reads lines of six words: measure, shape, accepted or refused, lines, which, value. 0 where one is wrong or missing. */
+/* Reads lines of six words: measure, shape, accepted or refused, lines, which, value. Of a figure that comes more than once the least
+   counts. 0 where one is wrong or missing. */
 int figures_read(figures *f, FILE *from);
 
 /* Instructions of one call: a run with it less a run without it. */

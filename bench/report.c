@@ -1,7 +1,8 @@
-/* report PICTURE real|emulated < FIGURES
-   Prints the measured figures as text and writes them as a picture; the word says what the seconds are. Fails where a figure is missing
-   or a target is missed. */
+/* report PICTURE real|emulated TIMED < FIGURES
+   Prints the measured figures as text and writes them as a picture. The words say what the seconds are, and of how many calls they are
+   the quickest's. Fails where a figure is missing or a target is missed. */
 #include <stdio.h>
+#include <stdlib.h>
 #include <string.h>
 
 #include "figures.h"
@@ -21,8 +22,8 @@ static int write_picture(const figures *f, const char *path)
 int main(int argc, char **argv)
 {
     static figures f;
-    if (argc < 3) {
-        fprintf(stderr, "report PICTURE real|emulated < FIGURES\n");
+    if (argc < 4) {
+        fprintf(stderr, "report PICTURE real|emulated TIMED < FIGURES\n");
         return 2;
     }
     if (!figures_read(&f, stdin)) {
@@ -30,6 +31,7 @@ int main(int argc, char **argv)
         return 2;
     }
     f.emulated = strcmp(argv[2], "real") != 0;
+    f.timed = (unsigned)strtoul(argv[3], NULL, 10);
     table_print(&f);
     int met = targets_print(&f);
     if (!write_picture(&f, argv[1])) {

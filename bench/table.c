@@ -3,8 +3,6 @@
 
 #include <inttypes.h>
 
-#include "calls.h"
-
 static void print_row_name(int input, int size)
 {
     printf("%-15s %6u", input_names[input], size_lines[size]);
@@ -65,7 +63,7 @@ static void print_growth(const figures *f)
 static void print_seconds(const figures *f)
 {
     const char *unit = f->emulated ? "emulated seconds (under an emulator they are only ratios)" : "seconds";
-    printf("\nThe quickest of %d calls, in %s\n\n", ROUNDS, unit);
+    printf("\nThe quickest of %u calls, in %s\n\n", f->timed, unit);
     printf("%-15s %6s", "input", "lines");
     print_call_names(10);
     printf(" %14s %14s\n", "archive/plain", "archive/tuned");
