@@ -1,6 +1,6 @@
 -- The line that comes next, as the code reads it.
 use Prim.Native.Nat.{ℕ}
-use mathlib.Core.List.{List, [], _∷_}
+use mathlib.Core.List.{[], _∷_}
 use lib.Dec.{eqb, ltb}
 use lib.ListN.{length, drop}
 use Rattle.dirf.specs.Bytes.{if_then_else_, Text}

@@ -1,10 +1,10 @@
 -- The older edition's identifiers are those of 2025 without two.
 use Prim.Native.Nat.{ℕ}
-use mathlib.Core.Path.{_≡_, refl, sym, ap, _∙_, subst}
-use mathlib.Core.Bool.{Bool, true, false, not}
+use mathlib.Core.Path.{_≡_, refl, subst}
+use mathlib.Core.Bool.{true, false, not}
 use mathlib.Core.List.{List, [], _∷_}
 use borrow.Author.Tests.{not-true}
-use Rattle.dirf.specs.Bytes.{if_then_else_, Text, bytes, every, isIn, same, bytes-opens}
+use Rattle.dirf.specs.Bytes.{if_then_else_, Text, bytes, isIn, same, bytes-opens}
 use Rattle.dirf.specs.Kinds.{RTDS, ESDS, names2025, names2022}
 use Rattle.dirf.specs.Edition.{kindIn}
 use Rattle.dirf.proofs.tests.Bools.{by-answer}

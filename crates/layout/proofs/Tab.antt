@@ -1,7 +1,7 @@
 -- A list that a function fills, read at a place.
 use Prim.Native.Nat.{ℕ, zero, suc, _+_, _-_, _*_, _≤_, _<_}
 use mathlib.Core.Path.{_≡_, refl, sym, ap, _∙_}
-use mathlib.Core.List.{List, [], _∷_, _++_, head-eq-of-cons-eq, tail-eq-of-cons-eq}
+use mathlib.Core.List.{List, [], _++_, head-eq-of-cons-eq, tail-eq-of-cons-eq}
 use native.Mathlib.Nat.{add-zero, zero-add, add-suc, suc-add, add-comm, zero-mul, suc-mul, le-of-suc-le-suc, not-suc-le-zero}
 use native.Mathlib.Omega.{arith}
 use lib.ListN.{length, getD, drop, replicate, getD-replicate}

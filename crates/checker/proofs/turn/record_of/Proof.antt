@@ -5,7 +5,6 @@ use borrow.Author.Needs.{needs}
 use Rattle.layout.specs.Tables.{kinds}
 use Rattle.layout.proofs.Laws.{kind-small}
 use Rattle.layout.proofs.Editions.{laid-out}
-use Rattle.editions.specs.Editions.{editionSays, editionSaid}
 use Rattle.checker.specs.Turn.{recordOf}
 use Rattle.checker.proofs.turn.record_of.Statement.{statement}
 use Rattle.checker.proofs.turn.record_of.Tie as tie
