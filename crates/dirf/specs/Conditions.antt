@@ -1,4 +1,4 @@
--- The conditions among a record's fields, 19. They are asked once every field has passed 13 to 18.
+-- The conditions among a record's fields, 19. They are asked once every field has passed 13 to 18 and 26.
 use Prim.Native.Nat.{ℕ}
 use mathlib.Core.Bool.{Bool, _&&_, not}
 use mathlib.Core.List.{List, [], _∷_}

@@ -1,6 +1,6 @@
--- The rules of one field, 13 to 18. Each is asked of the record's identifier, the field's row and the field's bytes.
+-- The rules of one field, 13 to 18 and 26. Each is asked of the record's identifier, the field's row and the field's bytes.
 use Prim.Native.Nat.{ℕ}
-use mathlib.Core.Bool.{Bool, true, false, _&&_, not}
+use mathlib.Core.Bool.{Bool, true, false, _&&_, _||_, not}
 use mathlib.Core.List.{List, [], _∷_}
 use lib.Dec.{eqb, leb}
 use lib.ListN.{length}
@@ -9,6 +9,7 @@ use Rattle.dirf.specs.Limits.{bar, CR, LF}
 use Rattle.dirf.specs.Row.{Row, Format, C, N, D, Fill, fixed, variable, Need, obligatory, optional, Holds, identifier}
 use Rattle.dirf.specs.Row.{amount, months, ddd, telephone, cpf, cnpj, cpfOrCnpj, plain, oneOf}
 use Rattle.dirf.specs.Numbers.{isDate}
+use Rattle.dirf.specs.Digits.{rightCPF, rightCNPJ}
 
 unfoldable pub isObligatory : Need → Bool
 isObligatory obligatory = true
@@ -69,6 +70,19 @@ valid name cpfOrCnpj s = true
 valid name plain s = true
 valid name (oneOf vs) s = some (same s) vs
 
+-- 02, A1: "each filled CPF and CNPJ field, field 5 of PROC and RRA included, has right check digits"
+unfoldable pub digitsHeld : Holds → Text → Bool
+digitsHeld identifier s = true
+digitsHeld amount s = true
+digitsHeld months s = true
+digitsHeld ddd s = true
+digitsHeld telephone s = true
+digitsHeld cpf s = rightCPF s
+digitsHeld cnpj s = rightCNPJ s
+digitsHeld cpfOrCnpj s = rightCPF s || rightCNPJ s
+digitsHeld plain s = true
+digitsHeld (oneOf vs) s = true
+
 abbrev pub FieldTest : Type 0
 FieldTest = Text → Row → Text → Bool
 
@@ -100,11 +114,15 @@ noSuchDate name r s = filled s && dated (r .format) && not (isDate s)
 unfoldable pub notAValidValue : FieldTest
 notAValidValue name r s = filled s && not (valid name (r .holds) s)
 
+-- 26
+unfoldable pub wrongCheckDigits : FieldTest
+wrongCheckDigits name r s = filled s && not (digitsHeld (r .holds) s)
+
 -- a number, and when it is given for a field
 abbrev pub FieldRule : Type 0
 FieldRule = ℕ × FieldTest
 
--- 01, "Numbers given, and their order": 13 to 18 of one field, in the table's order
+-- 01, "Numbers given, and their order": 13 to 18 of one field, in the table's order; 02, A1: "26, after 18 for the same field"
 unfoldable pub fieldOrder : List FieldRule
 fieldOrder =
     (13, obligatoryFieldEmpty) ∷
@@ -113,10 +131,11 @@ fieldOrder =
     (16, zeroInFront) ∷
     (17, noSuchDate) ∷
     (18, notAValidValue) ∷
+    (26, wrongCheckDigits) ∷
     []
 
 -- to compute with this file: `unfolding fields-opens`
 unfoldable pub fields-opens : Unit {0}
-unfolding isObligatory rightByte fillsTo sizeHeld takesNoZero dated valid filled obligatoryFieldEmpty byteOfTheWrongKind
-    wrongSize zeroInFront noSuchDate notAValidValue fieldOrder
+unfolding isObligatory rightByte fillsTo sizeHeld takesNoZero dated valid digitsHeld filled obligatoryFieldEmpty byteOfTheWrongKind
+    wrongSize zeroInFront noSuchDate notAValidValue wrongCheckDigits fieldOrder
 fields-opens = tt

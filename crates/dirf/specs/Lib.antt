@@ -9,6 +9,7 @@ pub mod Edition
 pub mod Lines
 pub mod Editions
 pub mod Numbers
+pub mod Digits
 pub mod Fields
 pub mod Conditions
 pub mod Rules

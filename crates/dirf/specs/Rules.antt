@@ -40,7 +40,7 @@ unfoldable pub askField : ℕ → List FieldRule → Text → Row → Text → F
 askField f [] name r s = keeps
 askField f (x ∷ xs) name r s = orElse (given (x .0) f (x .1 name r s)) (askField f xs name r s)
 
--- 01: "13 to 18 run field by field, lowest field first"
+-- 01: "13 to 18 run field by field, lowest field first"; 26 of A1 with them
 unfoldable pub askFields : ℕ → List FieldRule → Text → List Row → List Text → Found
 askFields f xs name [] cs = keeps
 askFields f xs name (r ∷ rs) [] = keeps

@@ -1,4 +1,4 @@
--- 13 to 18 of one field, in the order in which the code asks them.
+-- 13 to 18 and 26 of one field, in the order in which the code asks them.
 use Prim.Native.Nat.{ℕ, _≤_}
 use mathlib.Core.Path.{_≡_, refl}
 use mathlib.Core.Bool.{Bool, true, false, _&&_, not, and-true, and-false}
@@ -11,8 +11,9 @@ use borrow.Author.Tests.{not-false}
 use Rattle.dirf.specs.Bytes.{if_then_else_, Text, every, isDigit, isEmpty, beginsWith}
 use Rattle.dirf.specs.Row.{Row, N}
 use Rattle.dirf.specs.Numbers.{isDate}
-use Rattle.dirf.specs.Fields.{isObligatory, rightByte, fillsTo, sizeHeld, takesNoZero, dated, valid, filled, fieldOrder}
+use Rattle.dirf.specs.Fields.{isObligatory, rightByte, fillsTo, sizeHeld, takesNoZero, dated, valid, digitsHeld, filled, fieldOrder}
 use Rattle.dirf.specs.Fields.{obligatoryFieldEmpty, byteOfTheWrongKind, wrongSize, zeroInFront, noSuchDate, notAValidValue}
+use Rattle.dirf.specs.Fields.{wrongCheckDigits}
 use Rattle.dirf.specs.Rules.{Found, keeps, given, orElse, askField}
 use Rattle.dirf.proofs.tests.Lists.{listed}
 use Rattle.dirf.proofs.rules.Asked.{field-kept, field-passes, nothing-found}
@@ -35,22 +36,24 @@ abbrev pub noDate : Row → Text → Bool
 noDate r s = dated (r .format) && not (isDate s)
 
 -- the number by what the tests of a filled field answer
-unfoldable pub ruled : Bool → Bool → Bool → Bool → Bool → ℕ
-ruled bytes size zero date value =
-    if not bytes then 14 else if not size then 15 else if zero then 16 else if date then 17 else if not value then 18 else 0
+unfoldable pub ruled : Bool → Bool → Bool → Bool → Bool → Bool → ℕ
+ruled bytes size zero date value digits =
+    if not bytes then 14 else if not size then 15 else if zero then 16 else if date then 17 else if not value then 18
+    else if not digits then 26 else 0
 
 module _ (name : Text) (r : Row) where
   pub empty-number : (s : Text) → length s ≡ 0 → numberOf (askField 0 fieldOrder name r s) ≡ (if isObligatory (r .need) then 13 else 0)
-  unfolding askField fieldOrder obligatoryFieldEmpty byteOfTheWrongKind wrongSize zeroInFront noSuchDate notAValidValue filled
-      isEmpty every beginsWith numberOf
+  unfolding askField fieldOrder obligatoryFieldEmpty byteOfTheWrongKind wrongSize zeroInFront noSuchDate notAValidValue
+      wrongCheckDigits filled isEmpty every beginsWith numberOf
   empty-number [] e = simp (and-false, and-true, step)
   empty-number (b ∷ s) e = absurd (omega arith)
 
   pub filled-number : (s : Text) → (length s ≡ 0 → ⊥)
       → numberOf (askField 0 fieldOrder name r s)
       ≡ ruled (every (rightByte (r .format)) s) (rightSize r s) (zeroFirst r s) (noDate r s) (valid name (r .holds) s)
-  unfolding askField fieldOrder obligatoryFieldEmpty byteOfTheWrongKind wrongSize zeroInFront noSuchDate notAValidValue filled
-      isEmpty numberOf ruled
+      (digitsHeld (r .holds) s)
+  unfolding askField fieldOrder obligatoryFieldEmpty byteOfTheWrongKind wrongSize zeroInFront noSuchDate notAValidValue
+      wrongCheckDigits filled isEmpty numberOf ruled
   filled-number [] h = absurd (h refl)
   filled-number (b ∷ s) h = simp (and-false, step)
 

@@ -1,4 +1,4 @@
-// The rules of a record's fields, 13 to 19, and the readers of amounts and month counts, which ask the same rules.
+// The rules of a record's fields, 13 to 19 and 26, and the readers of amounts and month counts, which ask the same rules.
 use fields::Places;
 use layout::Row;
 ghost use mathlib.Core.Path.{_≡_};
@@ -9,7 +9,7 @@ ghost use lib.ListN.{length, getD};
 ghost use Rattle.dirf.specs.Bytes.{every, some, isDigit, beginsWith, same, isEmpty};
 ghost use Rattle.dirf.specs.Row.{N, variable};
 ghost use Rattle.dirf.specs.Numbers.{valueOf, isLeap, daysIn, isDay, isDate};
-ghost use Rattle.dirf.specs.Fields.{rightByte, fillsTo, sizeHeld, takesNoZero, dated, valid, fieldOrder};
+ghost use Rattle.dirf.specs.Fields.{rightByte, fillsTo, sizeHeld, takesNoZero, dated, valid, digitsHeld, fieldOrder};
 ghost use Rattle.dirf.specs.Conditions.{conditionOrder};
 ghost use Rattle.dirf.specs.Rules.{askField, askConditions};
 ghost use Rattle.dirf.specs.Amounts.{readNumber, readAmount, readMonths};
@@ -302,7 +302,19 @@ fn is_printed(holds: u8, b: u8) -> bool
     }
 }
 
-// 15 to 18 of a field that is filled and whose bytes are of the right kind.
+// The check digits of what a field holds.
+fn digits_held(holds: u8, s: &[u8]) -> bool
+    ensures { λ r. ⌜ r ≡ digitsHeld (holdsOf holds) (now (s .entry)) ⌝ }
+{
+    match holds {
+        b'c' => digits::right_cpf(s),
+        b'j' => digits::right_cnpj(s),
+        b'e' => digits::right_either(s),
+        _ => true,
+    }
+}
+
+// 15 to 18, then 26, of a field that is filled and whose bytes are of the right kind.
 fn filled_rule(name: &[u8], s: &[u8], row: Row) -> u32
     requires { ⌜ FilledRight (now s) row ⌝ }
     ensures { λ r. ⌜ r ≡ numberOf (askField 0 fieldOrder (now (name .entry)) (rowSaid row) (now (s .entry))) ⌝ }
@@ -319,10 +331,13 @@ fn filled_rule(name: &[u8], s: &[u8], row: Row) -> u32
     if !is_valid(name, row.holds, s) {
         return 18;
     }
+    if !digits_held(row.holds, s) {
+        return 26;
+    }
     0
 }
 
-// The first of 13 to 18 that a field breaks, 0 where it breaks none.
+// The first of 13 to 18 and 26 that a field breaks, 0 where it breaks none.
 pub fn field_rule(name: &[u8], s: &[u8], row: Row) -> u32
     ensures { λ r. ⌜ r ≡ numberOf (askField 0 fieldOrder (now (name .entry)) (rowSaid row) (now (s .entry))) ⌝ }
 {
@@ -476,7 +491,7 @@ fn conditions_found(bytes: &[u8], p: Places, k: u32) -> Finding
     }
 }
 
-// 13 to 18 field by field, lowest field first, then 19.
+// 13 to 18 and 26 field by field, lowest field first, then 19.
 pub fn contents_found(
     bytes: &[u8],
     p: Places,

@@ -1,4 +1,4 @@
--- 13 to 18: what the test of each rule says of a field.
+-- 13 to 18 and 26: what the test of each rule says of a field.
 use Prim.Native.Nat.{ℕ, zero, suc, _≤_}
 use mathlib.Core.Path.{_≡_, refl, sym}
 use mathlib.Core.Bool.{Bool, false, true≢false}
@@ -12,14 +12,16 @@ use Rattle.dirf.specs.Bytes.{Text, every, some, isIn, same, bytes-opens}
 use Rattle.dirf.specs.Row.{Row, Format, C, N, D, Fill, fixed, variable, Need, obligatory, optional, Holds, identifier, amount, months}
 use Rattle.dirf.specs.Row.{ddd, telephone, cpf, cnpj, cpfOrCnpj, plain, oneOf}
 use Rattle.dirf.specs.Numbers.{valueOf, isLeap, daysIn, isDay, isDate}
-use Rattle.dirf.specs.Fields.{isObligatory, rightByte, fillsTo, sizeHeld, takesNoZero, dated, valid, filled, obligatoryFieldEmpty}
-use Rattle.dirf.specs.Fields.{byteOfTheWrongKind, wrongSize, zeroInFront, noSuchDate, notAValidValue}
+use Rattle.dirf.specs.Fields.{isObligatory, rightByte, fillsTo, sizeHeld, takesNoZero, dated, valid, filled}
+use Rattle.dirf.specs.Fields.{obligatoryFieldEmpty, byteOfTheWrongKind, wrongSize, zeroInFront, noSuchDate, notAValidValue}
+use Rattle.dirf.specs.Fields.{wrongCheckDigits}
 use Rattle.dirf.specs.Theorems.Plain.{_∈_, RightByte, Fills, SizeHeld, TakesNoZero, an-amount, a-month-count, a-ddd, Valid, Leap}
-use Rattle.dirf.specs.Theorems.Plain.{InMonth, long-month, short-month, february, leap-february, Date}
+use Rattle.dirf.specs.Theorems.Plain.{DigitsHeld, InMonth, long-month, short-month, february, leap-february, Date}
 use Rattle.dirf.proofs.tests.Bools.{by-answer, if-cases}
 use Rattle.dirf.proofs.tests.Says.{Says, always, never, says-not, says-by, denies, says, eqb-says, leb-says, it, on, some-says}
 use Rattle.dirf.proofs.tests.Says.{every-says, digit-says, two-says, same-says, begins-says}
 use Rattle.dirf.proofs.tests.Lists.{every-in}
+use Rattle.dirf.proofs.breaches.DigitLaws.{digits-held-say}
 
 obligatory-says : (n : Need) → Says (isObligatory n) (n ≡ obligatory)
 unfolding isObligatory
@@ -151,3 +153,7 @@ module _ (name : Text) (r : Row) (s : Text) where
   pub says-18 : Says (notAValidValue name r s) ((s ≢ []) × (Valid name (r .holds) s → ⊥))
   unfolding notAValidValue
   says-18 = search (says, filled-says, holds-say (r .holds) .valued)
+
+  pub says-26 : Says (wrongCheckDigits name r s) ((s ≢ []) × (DigitsHeld (r .holds) s → ⊥))
+  unfolding wrongCheckDigits
+  says-26 = search (says, filled-says, digits-held-say)

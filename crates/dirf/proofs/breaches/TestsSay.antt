@@ -15,7 +15,7 @@ use Rattle.dirf.specs.Row.{Row}
 use Rattle.dirf.specs.Edition.{Edition, kindIn, kindOf}
 use Rattle.dirf.specs.Lines.{clean, unclean, fields, field}
 use Rattle.dirf.specs.Fields.{FieldTest, FieldRule, fieldOrder, obligatoryFieldEmpty, byteOfTheWrongKind, wrongSize, zeroInFront}
-use Rattle.dirf.specs.Fields.{noSuchDate, notAValidValue}
+use Rattle.dirf.specs.Fields.{noSuchDate, notAValidValue, wrongCheckDigits}
 use Rattle.dirf.specs.Conditions.{Condition, conditionOrder, special, eventDateMissing, eventTypeMissing, deathNotStated}
 use Rattle.dirf.specs.Conditions.{estateStated}
 use Rattle.dirf.specs.Rules.{Rule, gives, fieldByField, conditions}
@@ -27,7 +27,7 @@ use Rattle.dirf.specs.Order.{wrongNumberOfFields, valueRecordRepeated, k
 use Rattle.dirf.specs.Theorems.Plain.{_∈_, Nth, NoLineEnd, SmallerKey}
 use Rattle.dirf.specs.Theorems.Breach.{Stands, FieldIs, Breach, follows, line-65537, long, ends, ends-after-CR, stray, no-bar}
 use Rattle.dirf.specs.Theorems.Breach.{unknown, for-later, misplaced, count, missing, byte, size, zero-in-front, no-date, invalid}
-use Rattle.dirf.specs.Theorems.Breach.{no-event-date, no-event-type, no-death, estate, again, not-greater, full}
+use Rattle.dirf.specs.Theorems.Breach.{wrong-digits, no-event-date, no-event-type, no-death, estate, again, not-greater, full}
 use Rattle.dirf.specs.Theorems.Sound.{Sound}
 use Rattle.dirf.specs.Theorems.Answered.{Closed, Given, by-test, by-field, by-condition, TestsSay}
 use Rattle.dirf.proofs.tests.Says.{Says, never, says-and, says-not, says-by, denies, says, eqb-says, ltb-says, isIn-says, same-says}
@@ -35,7 +35,7 @@ use Rattle.dirf.proofs.tests.Says.{ends-says, it, on}
 use Rattle.dirf.proofs.tests.Lists.{listed, Each, none, _also_, of-each}
 use Rattle.dirf.proofs.tests.Bools.{and-left, and-right, if-cases}
 use Rattle.dirf.proofs.breaches.CleanLaws.{clean-none, clean-unclean, clean-front, cut-says, stray-says}
-use Rattle.dirf.proofs.breaches.FieldLaws.{says-13, says-14, says-15, says-16, says-17, says-18}
+use Rattle.dirf.proofs.breaches.FieldLaws.{says-13, says-14, says-15, says-16, says-17, says-18, says-26}
 use Rattle.dirf.proofs.breaches.TreeLaws.{stands-says}
 use Rattle.dirf.proofs.breaches.KeysSay.{Under, LastOne, repeated-says, not-after-says, has-key-says}
 
@@ -189,6 +189,7 @@ module _ (h : Here) (named : Named h) where
       zero-in-front f r (q .1 .0) (i .0, subst (Nth cells f) (q .1 .1) (i .1)) (q .0))
       also (λ f r s i t. let q = says-17 name r s .0 t in no-date f r s i (q .0 .0) (q .0 .1) (q .1))
       also (λ f r s i t. let q = says-18 name r s .0 t in invalid f r s i (q .0) (q .1))
+      also (λ f r s i t. let q = says-26 name r s .0 t in wrong-digits f r s i (q .0) (q .1))
       also none
 
   -- and each condition
@@ -272,6 +273,7 @@ module _ (h : Here) (named : Named h) where
   breach-given (zero-in-front f r s i z) = by-field-rule zeroInFront (search listed) i (says-16 name r (48 ∷ s) .1 (z, (s, refl)))
   breach-given (no-date f r s i e d q) = by-field-rule noSuchDate (search listed depth 20) i (says-17 name r s .1 ((e, d), q))
   breach-given (invalid f r s i e q) = by-field-rule notAValidValue (search listed depth 20) i (says-18 name r s .1 (e, q))
+  breach-given (wrong-digits f r s i e q) = by-field-rule wrongCheckDigits (search listed depth 20) i (says-26 name r s .1 (e, q))
   breach-given (no-event-date e s q) =
       by-condition-rule record { kind = DECPF; field = 9; broken = eventDateMissing } (search listed) e (date-missing-says cells .1 (s, q))
   breach-given (no-event-type e s q) =

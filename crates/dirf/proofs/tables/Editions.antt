@@ -66,7 +66,7 @@ record HasLines (n : EditionName) (e : Edition) : Type 0 where
 
 module _ (e : Edition) where
   first : (n : EditionName) → HasLines n e → (before : List Rec) → length before ≡ 0 → KeptAfter e (line1 n) before
-  unfolding bytes-opens kinds-opens specs.Lines.lines-opens specs.Numbers.numbers-opens specs.Fields.fields-opens
+  unfolding bytes-opens kinds-opens specs.Lines.lines-opens specs.Numbers.numbers-opens specs.Digits.digits-opens specs.Fields.fields-opens
       specs.Conditions.conditions-opens specs.Rules.rules-opens specs.Keys.keys-opens specs.Order.line-opens mayStand opening
   first of2025 has before h room c m r = let d = has .dirf in simp (c, h, le-ltb room 1 (omega arith), d .0, d .1, d .2)
   first of2022 has before h room c m r = let d = has .dirf in simp (c, h, le-ltb room 1 (omega arith), d .0, d .1, d .2)
@@ -77,13 +77,13 @@ module _ (e : Edition) where
   names-dirf of2022 has = has .dirf .0
 
   closable : (n : EditionName) → HasLines n e → Closable e
-  unfolding bytes-opens kinds-opens specs.Lines.lines-opens specs.Numbers.numbers-opens specs.Fields.fields-opens
+  unfolding bytes-opens kinds-opens specs.Lines.lines-opens specs.Numbers.numbers-opens specs.Digits.digits-opens specs.Fields.fields-opens
       specs.Conditions.conditions-opens specs.Rules.rules-opens specs.Keys.keys-opens specs.Order.line-opens mayStand opening
   closable n has =
       record {
         line1 = line1 n;
-        line2 = bytes "RESPO|00000000000|A|11|33334444||||";
-        line3 = bytes "DECPF|00000000000|A|N|N|N|N|N|||N|||||";
+        line2 = bytes "RESPO|11144477735|A|11|33334444||||";
+        line3 = bytes "DECPF|11144477735|A|N|N|N|N|N|||N|||||";
         last = bytes "FIMDirf|";
         after0 = first n has;
         after1 = λ before h room c m r. let a = has .respo in simp (c, h, le-ltb room 2 (omega arith), a .0, a .1, a .2);

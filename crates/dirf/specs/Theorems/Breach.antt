@@ -14,7 +14,8 @@ use Rattle.dirf.specs.Lines.{fields, field}
 use Rattle.dirf.specs.Tree.{Rec, Open, opened, declarant, blockOf, kindOfFirst}
 use Rattle.dirf.specs.Keys.{keyFields, keyOf}
 use Rattle.dirf.specs.Order.{Here}
-use Rattle.dirf.specs.Theorems.Plain.{_∈_, Nth, NoLineEnd, RightByte, Fills, SizeHeld, TakesNoZero, Valid, Date, SmallerKey}
+use Rattle.dirf.specs.Theorems.Plain.{_∈_, Nth, NoLineEnd, RightByte, Fills, SizeHeld, TakesNoZero, Valid, DigitsHeld, Date}
+use Rattle.dirf.specs.Theorems.Plain.{SmallerKey}
 
 -- the lists have k directly below an open record o, and an IDREC is of the beneficiary's own block
 pub record Holds (e : Edition) (d : ℕ) (o : Open) (outer : List Open) (k : ℕ) : Type 0 where
@@ -93,6 +94,8 @@ pub data Breach (h : Here) : ℕ → ℕ → Type 0 where
   no-date : (f : ℕ) (r : Row) (s : Text) → FieldIs h f r s → s ≢ [] → r .format ≡ D → (Date s → ⊥) → Breach h 17 f
   -- 18 "not one of the valid values"
   invalid : (f : ℕ) (r : Row) (s : Text) → FieldIs h f r s → s ≢ [] → (Valid (h .contents .name) (r .holds) s → ⊥) → Breach h 18 f
+  -- 26 "right check digits by the public modulo 11 rule"
+  wrong-digits : (f : ℕ) (r : Row) (s : Text) → FieldIs h f r s → s ≢ [] → (DigitsHeld (r .holds) s → ⊥) → Breach h 26 f
   -- 19 "a condition is broken": DECPF, "field 8 is S: 9 and 10 are filled"
   no-event-date : h .contents .kind ≡ DECPF → field 8 (h .contents .cells) ≡ bytes "S" → field 9 (h .contents .cells) ≡ [] → Breach h 19 9
   no-event-type : h .contents .kind ≡ DECPF → field 8 (h .contents .cells) ≡ bytes "S" → field 10 (h .contents .cells) ≡ [] → Breach h 19 10

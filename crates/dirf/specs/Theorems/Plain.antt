@@ -1,15 +1,16 @@
--- Plain words of mathematics that the statements use: membership, places in a list, dates, smaller keys.
-use Prim.Native.Nat.{ℕ, suc, _%_, _≤_, _<_}
+-- Plain words of mathematics that the statements use: membership, places in a list, check digits, dates, smaller keys.
+use Prim.Native.Nat.{ℕ, suc, _+_, _%_, _≤_, _<_}
 use mathlib.Core.Path.{_≡_}
 use mathlib.Core.Bool.{true}
 use mathlib.Core.Logic.{_⊎_, _≢_}
 use mathlib.Core.List.{List, [], _∷_, _++_, List·Memᴰ}
-use lib.ListN.{take, drop}
+use lib.ListN.{length, getD, take, drop}
 use Rattle.dirf.specs.Bytes.{Text}
 use Rattle.dirf.specs.Row.{Format, C, N, D, Fill, fixed, variable}
 use Rattle.dirf.specs.Row.{Holds, identifier, amount, months, ddd, telephone, cpf, cnpj, cpfOrCnpj, plain, oneOf}
 use Rattle.dirf.specs.Lines.{Piece}
 use Rattle.dirf.specs.Numbers.{valueOf}
+use Rattle.dirf.specs.Digits.{weighted}
 
 infix 4 _∈_
 abbrev pub _∈_ : {A : Type 0} → A → List A → Type 0
@@ -70,6 +71,39 @@ Valid name cnpj s = Unit {0}
 Valid name cpfOrCnpj s = Unit {0}
 Valid name plain s = Unit {0}
 Valid name (oneOf vs) s = s ∈ vs
+
+-- 02, A1: "remainder below 2 gives 0, else 11 minus it", for the remainders from 0 to 10
+abbrev pub digitGiven : ℕ → ℕ
+digitGiven rest = getD (0 ∷ 0 ∷ 9 ∷ 8 ∷ 7 ∷ 6 ∷ 5 ∷ 4 ∷ 3 ∷ 2 ∷ 1 ∷ []) rest 0
+
+-- digits, and behind them the one that their weights give
+abbrev pub withDigit : List ℕ → Text → Text
+withDigit weights s = s ++ ((48 + digitGiven (weighted weights s % 11)) ∷ [])
+
+-- a number is its first digits with both check digits that they give, the second with a weight put in front
+abbrev pub RightDigits : ℕ → List ℕ → Text → Type 0
+RightDigits front weights s = s ≡ withDigit (front ∷ weights) (withDigit weights (take (length weights) s))
+
+-- "CPF weights 10 down to 2, then 11 down to 2"
+abbrev pub RightCPF : Text → Type 0
+RightCPF s = RightDigits 11 (10 ∷ 9 ∷ 8 ∷ 7 ∷ 6 ∷ 5 ∷ 4 ∷ 3 ∷ 2 ∷ []) s
+
+-- "CNPJ 5 4 3 2 9 8 7 6 5 4 3 2, then with a 6 put in front"
+abbrev pub RightCNPJ : Text → Type 0
+RightCNPJ s = RightDigits 6 (5 ∷ 4 ∷ 3 ∷ 2 ∷ 9 ∷ 8 ∷ 7 ∷ 6 ∷ 5 ∷ 4 ∷ 3 ∷ 2 ∷ []) s
+
+-- "each filled CPF and CNPJ field, field 5 of PROC and RRA included"
+abbrev pub DigitsHeld : Holds → Text → Type 0
+DigitsHeld identifier s = Unit {0}
+DigitsHeld amount s = Unit {0}
+DigitsHeld months s = Unit {0}
+DigitsHeld ddd s = Unit {0}
+DigitsHeld telephone s = Unit {0}
+DigitsHeld cpf s = RightCPF s
+DigitsHeld cnpj s = RightCNPJ s
+DigitsHeld cpfOrCnpj s = RightCPF s ⊎ RightCNPJ s
+DigitsHeld plain s = Unit {0}
+DigitsHeld (oneOf vs) s = Unit {0}
 
 -- 01, "Fields": "Gregorian calendar"
 abbrev pub Leap : ℕ → Type 0

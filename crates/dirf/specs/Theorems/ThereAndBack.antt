@@ -18,7 +18,7 @@ use Rattle.dirf.specs.Theorems.Breach.{Breach}
 
 -- the numbers that a line can give by itself, whatever stands before it and however much room there is
 abbrev pub ofTheLine : List ℕ
-ofTheLine = 4 ∷ 5 ∷ 6 ∷ 8 ∷ 9 ∷ 10 ∷ 11 ∷ 13 ∷ 14 ∷ 15 ∷ 16 ∷ 17 ∷ 18 ∷ 19 ∷ []
+ofTheLine = 4 ∷ 5 ∷ 6 ∷ 8 ∷ 9 ∷ 10 ∷ 11 ∷ 13 ∷ 14 ∷ 15 ∷ 16 ∷ 17 ∷ 18 ∷ 26 ∷ 19 ∷ []
 
 -- a piece breaks no rule that it can break by itself
 abbrev pub Sound-line : Edition → Piece → Type 0

@@ -3,7 +3,7 @@ use mathlib.Core.Bool.{true, false}
 use native.Mathlib.Omega.{arith}
 use borrow.Author.Needs.{needs}
 use borrow.Author.Tests.{not-true, not-false}
-use Rattle.dirf.specs.Fields.{valid, fieldOrder}
+use Rattle.dirf.specs.Fields.{valid, digitsHeld, fieldOrder}
 use Rattle.dirf.specs.Rules.{askField}
 use Rattle.layout.specs.Tables.{rowOf}
 use Rattle.layout.specs.Codes.{rowSaid}
@@ -16,7 +16,7 @@ number : (t : tie.Start) → let a = t .args in
     let r = rowSaid (a .row) in
     let s = a .s .now in
     numberOf (askField 0 fieldOrder (a .name .now) r s)
-    ≡ ruled true (rightSize r s) (zeroFirst r s) (noDate r s) (valid (a .name .now) (r .holds) s)
+    ≡ ruled true (rightSize r s) (zeroFirst r s) (noDate r s) (valid (a .name .now) (r .holds) s) (digitsHeld (r .holds) s)
 unfolding rowOf rowSaid
 number t =
     filled-number (t .args .name .now) (rowSaid (t .args .row)) (t .args .s .now) (λ e. omega (arith, t .pre .filled))
@@ -38,6 +38,11 @@ date : (c : tie.Else3) → let t = first (c .before .before .before .before) in 
 unfolding rowOf rowSaid
 date c = sym (c .before .no-such-date .ensures) ∙ c .if3 .left
 
+value : (c : tie.Else4) → let t = first (c .before .before .before .before .before .before) in
+    valid (t .args .name .now) (rowSaid (t .args .row) .holds) (t .args .s .now) ≡ true
+unfolding rowOf rowSaid
+value c = sym (c .before .is-valid .ensures) ∙ not-false _ (c .if4 .left)
+
 pub filled-rule-spec : {M : Type 1} → statement M
 unfolding rowOf rowSaid ruled
 filled-rule-spec =
@@ -58,8 +63,16 @@ filled-rule-spec =
     let q = d .before .before in
     let p = q .before .before in
     rw (number (first p), size p, zero q, date d, sym (c .before .is-valid .ensures) ∙ not-true _ (c .if4 .taken)))
+    (λ c κs. search needs)
     (λ c.
-    let d = c .before .before in
+    let v = c .before .before in
+    let d = v .before .before in
     let q = d .before .before in
     let p = q .before .before in
-    rw (number (first p), size p, zero q, date d, sym (c .before .is-valid .ensures) ∙ not-false _ (c .if4 .left))))
+    rw (number (first p), size p, zero q, date d, value v, sym (c .before .digits-held .ensures) ∙ not-true _ (c .if5 .taken)))
+    (λ c.
+    let v = c .before .before in
+    let d = v .before .before in
+    let q = d .before .before in
+    let p = q .before .before in
+    rw (number (first p), size p, zero q, date d, value v, sym (c .before .digits-held .ensures) ∙ not-false _ (c .if5 .left))))
