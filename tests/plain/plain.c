@@ -1,4 +1,4 @@
-/* The check of a file: line by line, the numbers tried in document 01's order. */
+/* The check of a file: line by line, the numbers tried in document 01's order, 26 where change A1 puts it. */
 #include <string.h>
 
 #include "plain_inner.h"
@@ -179,7 +179,7 @@ static int key_rises(const place *p, const line *l)
     }
 }
 
-/* 8 to 20 of one line, in order; fills in the line's kind and parent. */
+/* 8 to 21 and 26 of one line, in order; fills in the line's kind and parent. */
 static fault line_fault(const place *p, line *l)
 {
     part b = l->bytes;

@@ -1,6 +1,8 @@
 /* Dirf: the check of a file, the field reader, the readers and writers of
    amounts and month counts, and the line writer, as document 01 sets them for
-   2025 and change A4 of document 02 for the older edition.
+   2025 and change A4 of document 02 for the older edition. In both, the check
+   and the line writer ask the check digits of every filled CPF and CNPJ, as
+   change A1 has it: 26, after 18 of the same field.
    Every function takes every input; a pointer may be NULL where its length or
    room is 0. An output never overlaps an input. An edition is one of the two. */
 #ifndef PLAIN_H
@@ -69,6 +71,7 @@ typedef struct {
     int obligatory;
     const char *values;     /* printed values joined by a comma, or NULL */
     int amount, months, ddd, telephone, cpf_or_cnpj;
+    int cpf, cnpj;          /* at most one of cpf_or_cnpj, cpf and cnpj; A1 asks each */
 } plain_row;
 plain_row plain_field_row(plain_edition edition, unsigned kind, unsigned f);
 

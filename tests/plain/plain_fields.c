@@ -1,4 +1,4 @@
-/* Numbers 13 to 18, one field after another, then the conditions of 19. */
+/* Numbers 13 to 18 and 26, one field after another, then the conditions of 19. */
 #include <string.h>
 
 #include "plain_inner.h"
@@ -24,7 +24,7 @@ static int size_right(const row *r, size_t len)
     if (r->rule == TELEPHONE)
         return len == 8 || len == 9;
     if (r->rule == CPF_OR_CNPJ)
-        return len == 11 || len == 14;
+        return len == CPF_DIGITS || len == CNPJ_DIGITS;
     return r->fixed ? len == r->size : len <= r->size;
 }
 
@@ -59,6 +59,32 @@ static int is_one_of(const char *values, part p)
     }
 }
 
+/* The check digit that a sum of weighted digits asks for. */
+static unsigned check_digit(unsigned sum)
+{
+    unsigned left = sum % 11;
+    return left < 2 ? 0 : 11 - left;
+}
+
+/* The modulo 11 rule, asked of 11 or 14 digits only. The weights are the second
+   check digit's; the first one's are the same without the one in front. */
+static int check_digits_right(part p)
+{
+    static const uint8_t cpf[CPF_DIGITS - 1] = {11, 10, 9, 8, 7, 6, 5, 4, 3, 2};
+    static const uint8_t cnpj[CNPJ_DIGITS - 1] = {6, 5, 4, 3, 2, 9, 8, 7, 6, 5, 4, 3, 2};
+    const uint8_t *weights = p.len == CPF_DIGITS ? cpf : cnpj;
+    size_t before = p.len - 2;
+    unsigned first_sum = 0, second_sum = 0;
+    for (size_t i = 0; i < before; i++) {
+        unsigned digit = p.bytes[i] - '0';
+        first_sum += digit * weights[i + 1];
+        second_sum += digit * weights[i];
+    }
+    unsigned first = p.bytes[before] - '0', second = p.bytes[before + 1] - '0';
+    second_sum += first * weights[before];
+    return first == check_digit(first_sum) && second == check_digit(second_sum);
+}
+
 static uint32_t field_fault(const row *r, part p)
 {
     if (p.len == 0)
@@ -74,6 +100,9 @@ static uint32_t field_fault(const row *r, part p)
         return 17;
     if (r->values != NULL && !is_one_of(r->values, p))
         return 18;
+    int identity = r->rule == CPF || r->rule == CNPJ || r->rule == CPF_OR_CNPJ;
+    if (identity && !check_digits_right(p))
+        return 26;
     return 0;
 }
 

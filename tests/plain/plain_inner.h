@@ -25,12 +25,12 @@ enum kind {
 };
 
 enum role { LATER, HEAD, DECLARANT, CODE, BLOCK, BENEFICIARY, VALUE, END };
-enum rule { NO_RULE, AMOUNT, MONTHS, DDD, TELEPHONE, CPF_OR_CNPJ };
+enum rule { NO_RULE, AMOUNT, MONTHS, DDD, TELEPHONE, CPF, CNPJ, CPF_OR_CNPJ };
 
 enum { BAR = 124, CR = 13, LF = 10 };
 enum { MOST_FIELDS = 15, MARK_FIELD = 6 };
 enum { EDITIONS = 2 };
-enum { AMOUNT_DIGITS = 13, MONTHS_DIGITS = 4 };
+enum { AMOUNT_DIGITS = 13, MONTHS_DIGITS = 4, CPF_DIGITS = 11, CNPJ_DIGITS = 14 };
 
 /* One row of the field tables. */
 typedef struct {
@@ -67,7 +67,7 @@ uint32_t plain_kind_of(plain_edition edition, part identifier);
 /* The row of field f, which has to be one of the kind's fields. */
 row plain_row_of(plain_edition edition, uint32_t kind, unsigned f);
 
-/* 13 to 18 over all fields of a base kind, then 19. */
+/* 13 to 18 and 26 over all fields of a base kind, then 19. */
 fault plain_fields_fault(plain_edition edition, uint32_t kind, const part *fields);
 
 #endif

@@ -24,7 +24,7 @@ static const row dirf_rows[EDITIONS][5] = {
 
 /* 3.2, fields 2 to 8 */
 static const row respo_rows[] = {
-    {'N', FIXED, 11, OBLIGATORY, NO_RULE, NULL},
+    {'N', FIXED, 11, OBLIGATORY, CPF, NULL},
     {'C', VARIABLE, 60, OBLIGATORY, NO_RULE, NULL},
     {'N', FIXED, 2, OBLIGATORY, DDD, NULL},
     {'N', VARIABLE, 9, OBLIGATORY, TELEPHONE, NULL},
@@ -35,7 +35,7 @@ static const row respo_rows[] = {
 
 /* 3.3, fields 2 to 15 */
 static const row decpf_rows[] = {
-    {'N', FIXED, 11, OBLIGATORY, NO_RULE, NULL},
+    {'N', FIXED, 11, OBLIGATORY, CPF, NULL},
     {'C', VARIABLE, 60, OBLIGATORY, NO_RULE, NULL},
     {'C', FIXED, 1, OBLIGATORY, NO_RULE, "S,N"},
     {'C', FIXED, 1, OBLIGATORY, NO_RULE, "S,N"},
@@ -47,16 +47,16 @@ static const row decpf_rows[] = {
     {'C', FIXED, 1, OBLIGATORY, NO_RULE, "S,N"},
     {'D', FIXED, 8, OPTIONAL, NO_RULE, NULL},
     {'N', FIXED, 1, OPTIONAL, NO_RULE, "0,1"},
-    {'N', FIXED, 11, OPTIONAL, NO_RULE, NULL},
+    {'N', FIXED, 11, OPTIONAL, CPF, NULL},
     {'C', VARIABLE, 60, OPTIONAL, NO_RULE, NULL},
 };
 
 /* 3.4, fields 2 to 14 */
 static const row decpj_rows[] = {
-    {'N', FIXED, 14, OBLIGATORY, NO_RULE, NULL},
+    {'N', FIXED, 14, OBLIGATORY, CNPJ, NULL},
     {'C', VARIABLE, 150, OBLIGATORY, NO_RULE, NULL},
     {'N', FIXED, 1, OBLIGATORY, NO_RULE, "0,1,2,3,4,8"},
-    {'N', FIXED, 11, OBLIGATORY, NO_RULE, NULL},
+    {'N', FIXED, 11, OBLIGATORY, CPF, NULL},
     {'C', FIXED, 1, OBLIGATORY, NO_RULE, "S,N"},
     {'C', FIXED, 1, OBLIGATORY, NO_RULE, "S,N"},
     {'C', FIXED, 1, OBLIGATORY, NO_RULE, "S,N"},
@@ -75,7 +75,7 @@ static const row idrec_rows[] = {
 
 /* 3.6, fields 2 to 6 */
 static const row bpfdec_rows[] = {
-    {'N', FIXED, 11, OBLIGATORY, NO_RULE, NULL},
+    {'N', FIXED, 11, OBLIGATORY, CPF, NULL},
     {'C', VARIABLE, 60, OBLIGATORY, NO_RULE, NULL},
     {'D', FIXED, 8, OPTIONAL, NO_RULE, NULL},
     {'C', FIXED, 1, OBLIGATORY, NO_RULE, "S,N"},
@@ -84,13 +84,13 @@ static const row bpfdec_rows[] = {
 
 /* 3.7, 3.9, 3.11, 3.14 and 3.23, fields 2 and 3: a CNPJ and its name */
 static const row cnpj_rows[] = {
-    {'N', FIXED, 14, OBLIGATORY, NO_RULE, NULL},
+    {'N', FIXED, 14, OBLIGATORY, CNPJ, NULL},
     {'C', VARIABLE, 150, OBLIGATORY, NO_RULE, NULL},
 };
 
 /* 3.10 and 3.13, fields 2 to 4 */
 static const row dated_cpf_rows[] = {
-    {'N', FIXED, 11, OBLIGATORY, NO_RULE, NULL},
+    {'N', FIXED, 11, OBLIGATORY, CPF, NULL},
     {'C', VARIABLE, 60, OBLIGATORY, NO_RULE, NULL},
     {'D', FIXED, 8, OPTIONAL, NO_RULE, NULL},
 };
@@ -117,7 +117,7 @@ static const row rra_rows[] = {
 
 /* 3.16, fields 2 to 6 */
 static const row bpfrra_rows[] = {
-    {'N', FIXED, 11, OBLIGATORY, NO_RULE, NULL},
+    {'N', FIXED, 11, OBLIGATORY, CPF, NULL},
     {'C', VARIABLE, 60, OBLIGATORY, NO_RULE, NULL},
     {'C', VARIABLE, 50, OPTIONAL, NO_RULE, NULL},
     {'D', FIXED, 8, OPTIONAL, NO_RULE, NULL},
@@ -152,14 +152,14 @@ static const row qtmeses_rows[] = {
 
 /* 3.24, fields 2 to 4; the share is no amount and no month count */
 static const row bpfscp_rows[] = {
-    {'N', FIXED, 11, OBLIGATORY, NO_RULE, NULL},
+    {'N', FIXED, 11, OBLIGATORY, CPF, NULL},
     {'C', VARIABLE, 60, OBLIGATORY, NO_RULE, NULL},
     {'N', VARIABLE, 4, OPTIONAL, NO_RULE, NULL},
 };
 
 /* 3.25, fields 2 to 4; the share is printed as C here */
 static const row bpjscp_rows[] = {
-    {'N', FIXED, 14, OBLIGATORY, NO_RULE, NULL},
+    {'N', FIXED, 14, OBLIGATORY, CNPJ, NULL},
     {'C', VARIABLE, 150, OBLIGATORY, NO_RULE, NULL},
     {'C', VARIABLE, 4, OPTIONAL, NO_RULE, NULL},
 };
@@ -309,5 +309,7 @@ plain_row plain_field_row(plain_edition edition, unsigned kind, unsigned f)
     out.ddd = r.rule == DDD;
     out.telephone = r.rule == TELEPHONE;
     out.cpf_or_cnpj = r.rule == CPF_OR_CNPJ;
+    out.cpf = r.rule == CPF;
+    out.cnpj = r.rule == CNPJ;
     return out;
 }

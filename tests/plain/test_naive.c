@@ -6,6 +6,7 @@
 #include <string.h>
 
 #include "test_naive.h"
+#include "test_people.h"
 
 #define KIND(n) table[4 * ((n) - 1)]
 #define START(n) table[4 * ((n) - 1) + 1]
@@ -52,6 +53,26 @@ static int value_listed(const char *values, const uint8_t *at, size_t len)
     return 0;
 }
 
+/* A check digit is the one that makes its sum a multiple of 11 when it is added, and 0 where none of 1 to 9 does. Weights grow
+   from 2 at the right; those of a CNPJ begin again after 9. */
+static int digit_fits(const uint8_t *at, size_t before, unsigned greatest)
+{
+    unsigned sum = 0, weight = 2, digit = 9;
+    for (size_t i = before; i > 0; i--) {
+        sum += weight * (at[i - 1] - 48u);
+        weight = weight == greatest ? 2 : weight + 1;
+    }
+    while (digit > 0 && (sum + digit) % 11 != 0)
+        digit--;
+    return at[before] == 48 + digit;
+}
+
+static int identity_right(const uint8_t *at, size_t len)
+{
+    unsigned greatest = len == 14 ? 9 : 11;
+    return digit_fits(at, len - 2, greatest) && digit_fits(at, len - 1, greatest);
+}
+
 plain_edition naive_edition(const uint8_t *file, size_t len)
 {
     static const char tail[] = "|XJFSFHB|";
@@ -87,6 +108,9 @@ uint32_t naive_field(plain_edition edition, unsigned kind, unsigned f, const uin
         return 17;
     if (r.values != NULL && !value_listed(r.values, at, len))
         return 18;
+    /* Which fields these are, the list from 000's tables says and not the row. */
+    if (people_is_id(plain_name(kind), f) && !identity_right(at, len))
+        return 26;
     return 0;
 }
 

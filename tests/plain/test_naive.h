@@ -11,7 +11,7 @@ plain_answer naive_check(const uint8_t *file, size_t len, uint32_t *table, size_
    and looking back from the sixth. */
 plain_edition naive_edition(const uint8_t *file, size_t len);
 
-/* 0, or the number of the first breach of one field among 13 to 18. */
+/* 0, or the number of the first breach of one field among 13 to 18 and 26. */
 uint32_t naive_field(plain_edition edition, unsigned kind, unsigned f, const uint8_t *at, size_t len);
 
 #endif

@@ -82,7 +82,7 @@ void people_declarant(unsigned kind, int scp, const char *rest, char *out)
 
 int people_is_id(const char *name, unsigned f)
 {
-    /* Taken from 000's tables 3.2 to 3.25 and not from the checker's rows, which cannot tell a CPF from a code. */
+    /* Taken from 000's tables 3.2 to 3.25 and not from the checker's rows, so that a slip in these shows. */
     static const struct { const char *name; unsigned field; } ids[] = {
         {"RESPO", 2}, {"DECPF", 2}, {"DECPF", 14}, {"DECPJ", 2}, {"DECPJ", 5},
         {"BPFDEC", 2}, {"BPJDEC", 2}, {"FCI", 2}, {"BPFFCI", 2}, {"BPJFCI", 2},
@@ -112,12 +112,12 @@ int people_right(const uint8_t *id, size_t len)
     return (len == 11 || len == 14) && digit_right(id, len - 2, least) && digit_right(id, len - 1, least);
 }
 
-/* How many fields of line n the answer takes for right: 13 to 18 come field by field, 19 to 21 and 7 after all. */
+/* How many fields of line n the answer takes for right: 13 to 18 and 26 come field by field, 19 to 21 and 7 after all. */
 static unsigned fields_taken(plain_answer a, uint32_t n)
 {
     if (a.number == 0 || n < a.line || a.number == 7 || (a.number >= 19 && a.number <= 21))
         return 99;
-    if (a.number >= 13 && a.number <= 18)
+    if ((a.number >= 13 && a.number <= 18) || a.number == 26)
         return a.field - 1;
     return a.number == 11;
 }

@@ -1,6 +1,6 @@
 /* The tests: the marked examples, every number alone, the order of the numbers,
-   the tree, every field row, cuts, rooms, random bytes and changed files, all of
-   it in both editions; then the editions beside each other. */
+   the tree, every field row, check digits, cuts, rooms, random bytes and changed
+   files, all of it in both editions; then the editions beside each other. */
 #define _DEFAULT_SOURCE                 /* for mmap, which C itself does not have */
 #include <stdio.h>
 #include <stdlib.h>
@@ -201,7 +201,7 @@ static plain_answer run(const uint8_t *bytes, size_t len, size_t room)
     return a;
 }
 
-/* All that a test takes for right is so in its numbers and flags too, else a later rule would speak first. */
+/* All that a test takes for right is so in its numbers and flags too, else another rule would speak first, now or later. */
 static void is_right(const char *what, const text *t, plain_answer wanted)
 {
     people_spot spot = people_wrong(t->bytes, t->len, wanted);
@@ -397,6 +397,7 @@ static void test_spoiled(void)
         {PF("N", "S"), "SCP|11222333000118|A|", 0, 5, 0, {4, 2}}, {PF("N", "S"), "SCP|00000000000001|A|", 0, 5, 0, {4, 2}},
         {PF("N", "S"), "SCP|11222333000118|A|", 20, 4, 2, {4, 2}}, {PF("N", "S"), "SCP|1122233300011|A|", 15, 4, 2, {0, 0}},
         {PF("N", "S"), "SCP|11222333000118||", 13, 4, 3, {4, 2}}, {PF("N", "S"), "SCP|11222333000118||", 8, 4, 0, {0, 0}},
+        {PF("N", "S"), "SCP|11222333000118|A|", 26, 4, 2, {0, 0}}, {PF("N", "S"), "SCP|11222333000118|A|", 12, 4, 1, {0, 0}},
         {PJ("N", "N"), "PROC|1|7|1|{cpf 7}|||", 0, 5, 0, {0, 0}}, {PJ("N", "N"), "PROC|1|7|2|{cnpj 7}|||", 0, 5, 0, {0, 0}},
         {PJ("N", "N"), "PROC|1|7|1|11144477753|||", 0, 5, 0, {4, 5}}, {PF("N", "N"), "RRA|1||2|11222333000118|||", 0, 5, 0, {4, 5}},
         {"DECPF|{cpf 1}|A|N|N|N|N|N|||N|||11144477736||", "IDREC|0561|", 0, 5, 0, {3, 14}},
@@ -928,12 +929,13 @@ static void test_parents(void)
         "SCP BPFSCP RISCP BPJSCP RISCP FIMDirf";
     static const uint32_t parents[] = {0, 0, 0, 3, 4, 5, 5, 4, 8, 3, 10, 11, 12, 11, 3, 15,
         16, 17, 16, 19, 3, 21, 22, 23, 3, 25, 26, 25, 28, 0};
-    uint32_t lines, table[4 * 30];
+    uint32_t lines, table[4 * 30] = {0};
     text t = path_file(DECPJ, path, "", &lines);
     expect("one of each place", &t, 0, 30, 0);
-    is_true(plain_check(t.bytes, t.len, table, 120).number == 0, "accepted", 0, 0);
+    plain_answer a = plain_check(t.bytes, t.len, table, 120);
+    is_true(a.number == 0, "accepted", a.number, a.line);
     size_t start = 0;
-    for (uint32_t n = 0; n < 30; n++) {
+    for (uint32_t n = 0; n < a.entries; n++) {
         size_t len = strcspn((const char *)t.bytes + start, "\r");
         is_true(table[4 * n + 3] == parents[n], "parent", n + 1, table[4 * n + 3]);
         is_true(table[4 * n + 1] == start && table[4 * n + 2] == len, "place", n + 1, start);
@@ -1027,22 +1029,29 @@ static void test_field_written(unsigned kind, unsigned f, const char *value, uin
                 && memcmp(out + strlen(line), "\r\n", 2) == 0, "line written", kind, f);
 }
 
+/* A file up to the place of a first line of the kind. */
+static text file_up_to(unsigned kind, uint32_t *lines)
+{
+    unsigned d;
+    text t = {0};
+    const char *path = path_to(kind, &d);
+    if (path != NULL)
+        return path_file(d, path, plain_name(kind), lines);
+    *lines = kind < 4 ? kind - 1 : 2;
+    for (uint32_t n = 1; n <= *lines; n++)
+        add_line(&t, n == 1 ? DIRF_LINE : RESPO_LINE);
+    return t;
+}
+
 /* The same line by the writer and in a file. */
 static void test_field_value(unsigned kind, unsigned f, const char *value, uint32_t number)
 {
     char line[2048];
-    uint32_t lines = kind < 4 ? kind - 1 : 2;
-    unsigned d;
+    uint32_t lines;
     test_field_written(kind, f, value, number, line);
     if (f == 1 && number)
         return;
-    text t = {0};
-    const char *path = path_to(kind, &d);
-    if (path != NULL)
-        t = path_file(d, path, plain_name(kind), &lines);
-    else
-        for (uint32_t n = 1; n <= lines; n++)
-            add_line(&t, n == 1 ? DIRF_LINE : RESPO_LINE);
+    text t = file_up_to(kind, &lines);
     add_line(&t, line);
     /* Without its mark the older edition's line 1 is judged by the years of 2025. */
     if (number && edition == PLAIN_2022 && kind == 1 && f == 6)
@@ -1406,6 +1415,342 @@ static void test_writer(void)
     test_writer_conditions();
     test_writer_lengths();
     test_writer_rooms();
+}
+
+/* ---- check digits ---- */
+
+#define BAD_CPF "11144477753"           /* A1's own, with its last two digits swapped */
+#define BAD_CNPJ "11222333000118"
+
+/* One CPF or CNPJ as a beneficiary's and as a lawyer's, by the writer and in a file: 0 or 26. */
+static void expect_id(const char *id, uint32_t number)
+{
+    unsigned long before = wrong;
+    test_field_value(named(strlen(id) == 14 ? "BPJDEC" : "BPFDEC"), 2, id, number);
+    test_field_value(named("PROC"), 5, id, number);
+    is_true(wrong == before, id, number, 0);
+}
+
+/* Right as it stands and with no single digit changed; neither of its remainders may be 0 or 1, which give the same digit. */
+static void expect_alone_right(const char *id)
+{
+    size_t len = strlen(id);
+    expect_id(id, 0);
+    for (size_t i = 0; i < len; i++)
+        for (char c = '0'; c <= '9'; c++) {
+            char other[PEOPLE_ID];
+            strcpy(other, id);
+            other[i] = c;
+            if (c != id[i])
+                expect_id(other, 26);
+        }
+}
+
+/* Two digits side by side changed about, the slip that A1 is meant for. */
+static void expect_swaps_wrong(const char *id, unsigned wanted)
+{
+    unsigned swaps = 0;
+    for (size_t i = 1; i < strlen(id); i++) {
+        char other[PEOPLE_ID];
+        strcpy(other, id);
+        other[i] = id[i - 1];
+        other[i - 1] = id[i];
+        if (id[i] == id[i - 1])
+            continue;
+        expect_id(other, 26);
+        swaps++;
+    }
+    is_true(swaps == wanted, "swaps", swaps, wanted);
+}
+
+static void test_given_ids(void)
+{
+    static const char *const neighbours[] = {"11144477734", "11144477736", "11144477725", "11144477745", "11144477635", "11144477835",
+        "11144477753", "11144477705", "11144477730", "11144477700", "21144477735", "01144477735",
+        "11222333000180", "11222333000182", "11222333000171", "11222333000191", "11222333000081", "11222333000281",
+        "11222333000118", "11222333000101", "11222333000100", "21222333000181", "01222333000181", "11222333001081"};
+    expect_alone_right("11144477735");
+    expect_alone_right("11222333000181");
+    expect_swaps_wrong("11144477735", 4);
+    expect_swaps_wrong("11222333000181", 6);
+    /* No two neighbours alike and no branch of zeros, so that every weight counts. */
+    expect_alone_right("19283746546");
+    expect_alone_right("98765432198796");
+    expect_swaps_wrong("19283746546", 10);
+    expect_swaps_wrong("98765432198796", 13);
+    for (unsigned i = 0; i < sizeof neighbours / sizeof *neighbours; i++)
+        expect_id(neighbours[i], 26);
+}
+
+/* The remainder that decides the digit behind the first n. */
+static unsigned remainder_of(const char *id, size_t n)
+{
+    unsigned sum = 0;
+    for (size_t i = 0; i < n; i++)
+        sum += (unsigned)(id[i] - '0') * (2 + (unsigned)(n - 1 - i) % (strlen(id) == 14 ? 8 : 10));
+    return sum % 11;
+}
+
+/* Of a hundred endings the number's own alone is right. */
+static void expect_own_ending(const char *id)
+{
+    for (unsigned end = 0; end < 100; end++) {
+        char other[PEOPLE_ID];
+        sprintf(other, "%.*s%02u", (int)strlen(id) - 2, id, end);
+        expect_id(other, strcmp(other, id) == 0 ? 0 : 26);
+    }
+}
+
+/* Reckoned apart with the weights that A1 prints: the remainders 0, 1 and 10 in each digit with each in the other. */
+static void test_remainders(void)
+{
+    static const struct { const char *id; unsigned first, second; } c[] = {
+        {"70974896500", 0, 0}, {"53873260000", 0, 1}, {"81671166701", 0, 10},
+        {"61780149700", 1, 0}, {"45046450500", 1, 1}, {"35436519601", 1, 10},
+        {"41358458510", 10, 0}, {"80593843410", 10, 1}, {"82579914811", 10, 10},
+        {"35704895000200", 0, 0}, {"52448052000200", 0, 1}, {"86162039000201", 0, 10},
+        {"09119853000200", 1, 0}, {"99406819000200", 1, 1}, {"77121929000101", 1, 10},
+        {"90308676000210", 10, 0}, {"42247184000210", 10, 1}, {"40279284000111", 10, 10},
+        {"11144477735", 8, 6}, {"11222333000181", 3, 10}, {"19283746546", 7, 5}, {"98765432198796", 2, 5}};
+    for (unsigned i = 0; i < sizeof c / sizeof *c; i++) {
+        size_t len = strlen(c[i].id);
+        is_true(remainder_of(c[i].id, len - 2) == c[i].first, "first remainder", i, c[i].first);
+        is_true(remainder_of(c[i].id, len - 1) == c[i].second, "second remainder", i, c[i].second);
+        expect_own_ending(c[i].id);
+    }
+}
+
+/* Nothing but the modulo 11 rule is asked: every CPF of one digit passes it, and of the CNPJs the one of zeros. */
+static void test_equal_digits(void)
+{
+    for (char c = '0'; c <= '9'; c++) {
+        expect_id(many(c, 11), 0);
+        expect_id(many(c, 14), c == '0' ? 0 : 26);
+    }
+}
+
+/* Every pair of remainders comes up, for a CPF and for a CNPJ; neither digit may be another. */
+static void test_all_remainders(void)
+{
+    char seen[2][11][11] = {0};
+    unsigned pairs = 0;
+    for (unsigned i = 0; i < 20000 && pairs < 2 * 11 * 11; i++) {
+        char id[PEOPLE_ID];
+        size_t len = i % 2 ? 14 : 11;
+        good_id(len, below_n(100000000), id);
+        char *pair = &seen[i % 2][remainder_of(id, len - 2)][remainder_of(id, len - 1)];
+        if (*pair)
+            continue;
+        *pair = 1;
+        pairs++;
+        expect_id(id, 0);
+        for (size_t at = len - 2; at < len; at++) {
+            char digit = id[at];
+            id[at] = (char)('0' + (digit - '0' + 1 + (int)below_n(9)) % 10);
+            expect_id(id, 26);
+            id[at] = digit;
+        }
+    }
+    is_true(pairs == 2 * 11 * 11, "all pairs of remainders", pairs, 0);
+}
+
+/* A field that holds such a number: right ones pass, and each digit of the two is asked. */
+static void test_id_field(unsigned kind, unsigned f, size_t len)
+{
+    int cnpj = len == 14;
+    test_field_value(kind, f, cnpj ? "11222333000181" : "11144477735", 0);
+    test_field_value(kind, f, cnpj ? "11222333000182" : "11144477736", 26);
+    test_field_value(kind, f, cnpj ? "11222333000171" : "11144477745", 26);
+    test_field_value(kind, f, cnpj ? BAD_CNPJ : BAD_CPF, 26);
+    test_field_value(kind, f, cnpj ? "12122333000181" : "11414477735", 26);
+    test_field_value(kind, f, cnpj ? "00000000000000" : "00000000000", 0);
+    test_field_value(kind, f, cnpj ? "00000000000001" : "00000000001", 26);
+    test_field_value(kind, f, cnpj ? "1122233300011" : "1114447775", 15);
+    test_field_value(kind, f, cnpj ? "112223330001181" : "111444777535", 15);
+    test_field_value(kind, f, cnpj ? "1122233300011X" : "1114447775X", 14);
+    test_field_value(kind, f, cnpj ? "X12223330001181" : "X11444777535", 14);
+}
+
+/* A field that holds none takes wrong digits as it takes any. */
+static void test_other_field(unsigned kind, unsigned f, plain_row r)
+{
+    if (r.values != NULL || r.format == 'D')
+        return;
+    if (!r.fixed && r.size >= 11)
+        test_field_value(kind, f, BAD_CPF, 0);
+    if (!r.fixed && r.size >= 14)
+        test_field_value(kind, f, BAD_CNPJ, 0);
+    if (r.fixed && r.size >= 11)
+        test_field_value(kind, f, many('1', r.size), 0);
+}
+
+/* Every field of the edition: 9 hold a CPF, 7 a CNPJ, 2 either, and no other can be 26. */
+static void test_id_fields(void)
+{
+    unsigned cpfs = 0, cnpjs = 0, either = 0;
+    for (unsigned kind = 1; kind <= plain_kinds(); kind++)
+        for (unsigned f = 1; f <= plain_fields(edition, kind); f++) {
+            plain_row r = plain_field_row(edition, kind, f);
+            cpfs += r.cpf != 0;
+            cnpjs += r.cnpj != 0;
+            either += r.cpf_or_cnpj != 0;
+            if (!people_is_id(plain_name(kind), f)) {
+                test_other_field(kind, f, r);
+                continue;
+            }
+            if (!r.cnpj)
+                test_id_field(kind, f, 11);
+            if (!r.cpf)
+                test_id_field(kind, f, 14);
+        }
+    is_true(cpfs == 9 && cnpjs == 7 && either == 2, "18 fields", cpfs * 100 + cnpjs, either);
+}
+
+/* A line with a fault in its fields, in a file and by the writer, also where that has no room. */
+static void expect_line_fault(const char *what, const char *line, uint32_t number, uint32_t field)
+{
+    char name[16];
+    uint32_t lines;
+    sprintf(name, "%.*s", (int)strcspn(line, "|"), line);
+    text t = file_up_to(named(name), &lines);
+    add_line(&t, line);
+    expect(what, &t, number, lines + 1, field);
+    drop(&t);
+    expect_written(what, named(name), line, number, field);
+    plain_written w = write_fields(named(name), line, NULL, 0);
+    is_true(w.number == number && w.field == field, "before 24", w.number, w.field);
+}
+
+/* Another field's fault, before it in the line. */
+static void test_26_after_fields(void)
+{
+    static const struct { const char *line; uint32_t number, field; } c[] = {
+        {"DECPF||A|N|N|N|N|N|||N|||" BAD_CPF "||", 13, 2}, {"DECPF|1114447773X|A|N|N|N|N|N|||N|||" BAD_CPF "||", 14, 2},
+        {"DECPF|1114447773|A|N|N|N|N|N|||N|||" BAD_CPF "||", 15, 2}, {"DECPF|11144477735||N|N|N|N|N|||N|||" BAD_CPF "||", 13, 3},
+        {"DECPF|11144477735|A|X|N|N|N|N|||N|||" BAD_CPF "||", 18, 4}, {"DECPF|11144477735|A|NN|N|N|N|N|||N|||" BAD_CPF "||", 15, 4},
+        {"DECPF|11144477735|A|N|N|N|N|N|2024010X||N|||" BAD_CPF "||", 14, 9},
+        {"DECPF|11144477735|A|N|N|N|N|N|20230229||N|||" BAD_CPF "||", 17, 9},
+        {"DECPF|11144477735|A|N|N|N|N|N|||N||2|" BAD_CPF "||", 18, 13},
+        {"DECPF|" BAD_CPF "|A|N|N|N|N|N|||N|||" BAD_CPF "||", 26, 2}, {"DECPF|11144477735|A|N|N|N|N|N|||N|||" BAD_CPF "||", 26, 14},
+        {"DECPJ||A|0|" BAD_CPF "|N|N|N|N|N|N|N|N||", 13, 2}, {"DECPJ|11222333000181||0|" BAD_CPF "|N|N|N|N|N|N|N|N||", 13, 3},
+        {"DECPJ|11222333000181|A|5|" BAD_CPF "|N|N|N|N|N|N|N|N||", 18, 4},
+        {"DECPJ|" BAD_CNPJ "|A|5|" BAD_CPF "|N|N|N|N|N|N|N|N||", 26, 2},
+        {"DECPJ|11222333000181|A|0|" BAD_CPF "|N|N|N|N|N|N|N|N||", 26, 5},
+        {"PROC||7|1|" BAD_CPF "|||", 13, 2}, {"PROC|X|7|1|" BAD_CPF "|||", 14, 2}, {"PROC|4|7|1|" BAD_CPF "|||", 18, 2},
+        {"PROC|1|123456789012345678901|1|" BAD_CPF "|||", 15, 3}, {"PROC|1||1|" BAD_CNPJ "|||", 13, 3},
+        {"PROC|1|7|3|" BAD_CNPJ "|||", 18, 4}, {"PROC|1|7|X|" BAD_CNPJ "|||", 14, 4}, {"PROC|1|7|11|" BAD_CNPJ "|||", 15, 4},
+        {"RRA||7|1|" BAD_CPF "|||", 13, 2}, {"RRA|3||1|" BAD_CNPJ "|||", 18, 2}, {"RRA|1||X|" BAD_CPF "|||", 14, 4}};
+    for (unsigned i = 0; i < sizeof c / sizeof *c; i++)
+        expect_line_fault(c[i].line, c[i].line, c[i].number, c[i].field);
+}
+
+/* The line's 26 comes before any fault of a later field, and before 19. */
+static void test_26_before_fields(void)
+{
+    static const struct { const char *line; uint32_t field; } c[] = {
+        {"RESPO|" BAD_CPF "||11|33334444||||", 2}, {"RESPO|" BAD_CPF "|A|1X|33334444||||", 2},
+        {"RESPO|" BAD_CPF "|A|1|33334444||||", 2}, {"RESPO|" BAD_CPF "|A|01|33334444||||", 2},
+        {"RESPO|" BAD_CPF "|A|11|3333444||||", 2}, {"DECPF|" BAD_CPF "||N|N|N|N|N|||N|||||", 2},
+        {"DECPF|" BAD_CPF "|A|X|N|N|N|N|||N|||||", 2}, {"DECPF|" BAD_CPF "|A|NN|N|N|N|N|||N|||||", 2},
+        {"DECPF|" BAD_CPF "|A|N|N|N|N|N|2024010X||N|||||", 2}, {"DECPF|" BAD_CPF "|A|N|N|N|N|N|20230229||N|||||", 2},
+        {"DECPF|11144477735|A|N|N|N|N|N|||N|||" BAD_CPF "|1234567890123456789012345678901234567890123456789012345678901|", 14},
+        {"DECPF|" BAD_CPF "|A|N|N|N|N|S|||N|||||", 2}, {"DECPF|11144477735|A|N|N|N|N|S|||N|||" BAD_CPF "||", 14},
+        {"DECPF|11144477735|A|N|N|N|N|S|20240101||N|||" BAD_CPF "||", 14},
+        {"DECPF|11144477735|A|N|N|N|N|S|20240101|1|N|||" BAD_CPF "||", 14},
+        {"DECPF|11144477735|A|N|N|N|N|S|20240101|2|N||1|" BAD_CPF "||", 14},
+        {"DECPJ|" BAD_CNPJ "|A|0||N|N|N|N|N|N|N|N||", 2}, {"DECPJ|11222333000181|A|0|" BAD_CPF "|X|N|N|N|N|N|N|N||", 5},
+        {"DECPJ|11222333000181|A|0|" BAD_CPF "|N|N|N|N|N|N|N|N|2024010X|", 5},
+        {"BPFDEC|" BAD_CPF "||||N|", 2}, {"BPFDEC|" BAD_CPF "|A|2024|N|N|", 2}, {"BPFDEC|" BAD_CPF "|A||X|N|", 2},
+        {"BPFSCP|" BAD_CPF "|A|X|", 2}, {"BPJSCP|" BAD_CNPJ "|A|12345|", 2}, {"BPFRRA|" BAD_CPF "|A|||X|", 2},
+        {"FCI|" BAD_CNPJ "||", 2}, {"BPFFCI|" BAD_CPF "|A|20240230|", 2}, {"BPJPROC|" BAD_CNPJ "||", 2},
+        {"PROC|1|7|1|" BAD_CPF "||01|", 5}, {"PROC|1|7|1|" BAD_CPF "||0X|", 5}, {"PROC|1|7|1|" BAD_CNPJ "||12345678901234|", 5},
+        {"RRA|1||1|" BAD_CNPJ "||0|", 5}};
+    for (unsigned i = 0; i < sizeof c / sizeof *c; i++)
+        expect_line_fault(c[i].line, c[i].line, 26, c[i].field);
+    expect_line_fault("19 with right digits", "DECPF|11144477735|A|N|N|N|N|S|||N|||11144477735||", 19, 9);
+}
+
+/* 26 and the faults of the line as a whole: 8 to 12 and 11 come before it, 20, 21 and 7 after. */
+static void test_26_in_file(void)
+{
+    expect_after("8", DECPF, "SCP|" BAD_CNPJ "|A", 8, 4, 0);
+    expect_after("9", DECPF, "SCPX|" BAD_CNPJ "|A|", 9, 4, 1);
+    expect_after("10, whose CNPJ nobody asks", DECPJ, "INFPC|" BAD_CNPJ "|A|", 10, 4, 1);
+    expect_after("12 before 26", DECPF, "BPFDEC|" BAD_CPF "|A||N|N|", 12, 4, 1);
+    expect_after("12 before 26", DECPF, "FCI|" BAD_CNPJ "|A|", 12, 4, 1);
+    expect_after("12 before 26 by order", DECPF, "IDREC|0561|~BPJDEC|{cnpj 1}|A|~BPFDEC|" BAD_CPF "|A||N|N|", 12, 6, 1);
+    expect_after("11 before 26", DECPF, "SCP|" BAD_CNPJ "|", 11, 4, 0);
+    expect_after("11 before 26", DECPF, "SCP|" BAD_CNPJ "|A||", 11, 4, 0);
+    expect_after("26 before a lesser key", DECPF, BPF "~BPFDEC|11144477725|A||N|N|", 26, 6, 2);
+    expect_after("20 with right digits", DECPF, BPF "~BPFDEC|{cpf 111444776}|A||N|N|", 20, 6, 2);
+    expect_after("26 before a lesser key", DECPF, "SCP|11222333000181|A|~SCP|11222333000180|A|", 26, 5, 2);
+    expect_after("26 before an equal key", DECPJ, "PROC|1|7|||||~PROC|1|7|1|" BAD_CPF "|||", 26, 5, 5);
+    expect_after("26 before an equal key", DECPF, "RRA|1||||||~RRA|1||2|" BAD_CNPJ "|||", 26, 5, 5);
+    expect_after("20 with a right lawyer", DECPF, "RRA|1||||||~RRA|1||2|11222333000181|||", 20, 5, 2);
+    expect_after("26 in the line before 21", DECPF, BPF "~RIO|1|A|~BPFDEC|11144477736|A||N|N|~RIO|1|A|~RIO|1|A|", 26, 7, 2);
+    expect_after("21 in the line before 26", DECPF, BPF "~RIO|1|A|~RIO|1|A|~BPFDEC|11144477736|A||N|N|", 21, 7, 1);
+    expect_after("26 before the end is missed", DECPF, "SCP|" BAD_CNPJ "|A|", 26, 4, 2);
+    expect_after("2 before 26", DECPF, "FIMDirf|~IDREC|0561|~BPFDEC|" BAD_CPF "|A||N|N|", 2, 5, 0);
+    expect_desk("26 in line 2", 2, "RESPO|" BAD_CPF "|ANA LIMA|11|33334444||||", 26, 2, 2);
+    expect_desk("26 in line 3", 3, "DECPF|" BAD_CPF "|ANA LIMA|N|N|N|S|N|||N|||||", 26, 3, 2);
+    expect_desk("26 in line 4", 4, "SCP|" BAD_CNPJ "|SCP SERRA|", 26, 4, 2);
+    expect_desk("26 in line 5", 5, "BPFSCP|" BAD_CPF "|ANA LIMA||", 26, 5, 2);
+    expect_bytes("5 before 26", DIRF_LINE "\r\nRESPO|" BAD_CPF "|A|11|33334444||||\r", 5, 2, 0);
+    expect_bytes("6 before 26", DIRF_LINE "\r\nRESPO|" BAD_CPF "|A|11|33334444||||\n", 6, 2, 0);
+    for (unsigned bad = 0; bad < 2; bad++) {
+        text t = head(DECPF, 1);
+        add_line(&t, bad ? "SCP|" BAD_CNPJ "|A|" : "SCP|11222333000181|A|");
+        expect_room("26 before 7", &t, 3, bad ? 26 : 7, 4, bad ? 2 : 0);
+        drop(&t);
+    }
+}
+
+/* What passes: the empty optional field, and either number whatever field 4 says of the lawyer. */
+static void test_26_passes(void)
+{
+    static const char *const fours[] = {"", "1", "2"}, *const fives[] = {"", "11144477735", "11222333000181"};
+    for (unsigned i = 0; i < 9; i++) {
+        char line[128];
+        sprintf(line, "PROC|1|7|%s|%s|||~FIMDirf|", fours[i % 3], fives[i / 3]);
+        expect_after("lawyer of PROC", DECPJ, line, 0, 5, 0);
+        sprintf(line, "RRA|2|7|%s|%s|||~FIMDirf|", fours[i % 3], fives[i / 3]);
+        expect_after("lawyer of RRA", DECPF, line, 0, 5, 0);
+        expect_after("lawyer of RRA", DECPJ, line, 0, 5, 0);
+    }
+    expect_declarant("no inventariante", DECPF, "N|||S|20240101|1||B|", 0, 4, 0);
+    expect_declarant("an inventariante", DECPF, "N|||S|20240101|1|11144477735|B|", 0, 4, 0);
+    expect_declarant("a wrong inventariante", DECPF, "N|||S|20240101|1|" BAD_CPF "|B|", 26, 3, 14);
+}
+
+/* What the writer asks before any field, and field 1 before the others. */
+static void test_26_written(void)
+{
+    static const uint8_t contents[] = "SCP" BAD_CNPJ "A";
+    size_t lengths[] = {3, 14, 1};
+    uint8_t out[64];
+    is_true(plain_write_line(edition, 20, contents, 18, lengths, 3, out, 64).number == 22, "22 before 26", 0, 0);
+    is_true(plain_write_line(edition, 59, contents, 18, lengths, 2, out, 64).number == 11, "11 before 26", 0, 0);
+    is_true(plain_write_line(edition, 59, contents, 17, lengths, 3, out, 64).number == 23, "23 before 26", 0, 0);
+    is_true(plain_write_line(edition, 59, contents, 18, lengths, 3, out, 64).number == 26, "26 written", 0, 0);
+    expect_written("18 in field 1 before 26", 59, "SCX|" BAD_CNPJ "|A|", 18, 1);
+    expect_written("26 at field 2", 59, "SCP|" BAD_CNPJ "|A|", 26, 2);
+    expect_written("26 before a CR in field 3", 59, "SCP|" BAD_CNPJ "|\r|", 26, 2);
+    expect_written("an amount is no CPF", named("RIO"), "RIO|" BAD_CPF "|A|", 0, 0);
+    is_true(plain_read_amount((const uint8_t *)BAD_CPF, 11).value == 11144477753u, "an amount read", 0, 0);
+}
+
+static void test_check_digits(void)
+{
+    test_given_ids();
+    test_remainders();
+    test_all_remainders();
+    test_equal_digits();
+    test_id_fields();
+    test_26_after_fields();
+    test_26_before_fields();
+    test_26_in_file();
+    test_26_passes();
+    test_26_written();
 }
 
 /* ---- the two editions ---- */
@@ -1831,6 +2176,8 @@ static void test_rows_printed(void)
             is_true(r.months == (strcmp(name, "QTMESES") == 0 && f > 1 && f < 14), "months", kind, f);
             is_true(r.ddd == (kind == 2 && f == 4) && r.telephone == (kind == 2 && (f == 5 || f == 7)), "DDD", kind, f);
             is_true(r.cpf_or_cnpj == (source_holds("PROC RRA", name) && f == 5), "CPF or CNPJ", kind, f);
+            int sized = people_is_id(name, f) && p.fixed;
+            is_true(r.cpf == (sized && p.size == 11) && r.cnpj == (sized && p.size == 14), "CPF, CNPJ", kind, f);
         }
     is_true(rows == (edition == PLAIN_2025 ? 561 : 533), "rows printed", rows, 0);
 }
@@ -1858,7 +2205,7 @@ static int same_values(unsigned kind, unsigned f)
     plain_row a = plain_field_row(PLAIN_2025, kind, f), b = plain_field_row(PLAIN_2022, kind, f);
     is_true(a.format == b.format && a.fixed == b.fixed && a.size == b.size && a.obligatory == b.obligatory
             && a.amount == b.amount && a.months == b.months && a.ddd == b.ddd && a.telephone == b.telephone
-            && a.cpf_or_cnpj == b.cpf_or_cnpj, "the same row", kind, f);
+            && a.cpf_or_cnpj == b.cpf_or_cnpj && a.cpf == b.cpf && a.cnpj == b.cnpj, "the same row", kind, f);
     return strcmp(a.values ? a.values : "", b.values ? b.values : "") == 0;
 }
 
@@ -1920,12 +2267,25 @@ static void test_helpers(void)
 static unsigned serial;
 static int scp_to_come;                 /* the declarant's line is made before its blocks */
 
-/* A good line with optional fields often empty and sizes often full. */
+/* One digit changed or two neighbours exchanged; by chance the number may stay right. */
+static void spoil(char *id, size_t len)
+{
+    size_t at = below_n((uint32_t)len - 1);
+    char first = id[at];
+    if (below_n(2)) {
+        id[at] = id[at + 1];
+        id[at + 1] = first;
+    } else {
+        id[at + below_n(2)] = (char)('0' + below_n(10));
+    }
+}
+
+/* A good line with optional fields often empty, sizes often full and either number of a lawyer; some contents are odd if changed. */
 static void random_line(text *t, unsigned kind, int changed)
 {
     static const char *const odd[] = {"", "0", "00", "1", "2", "9", "S", "N", "X", "01", "2025", "2022", "2024", "2021",
         "R6GP3ZA", "XJFSFHB",
-        "20240229", "20230229", "11144477735", "99999999999999", "A|", "A", "000", "123456789",
+        "20240229", "20230229", "11144477735", BAD_CPF, "11222333000181", "99999999999999", "A|", "A", "000", "123456789",
         "12345678", "1234567", "\xC3\x87", "2,3", ",", "S,N"};
     for (unsigned f = 1; f <= plain_fields(edition, kind); f++) {
         char field[160];
@@ -1938,8 +2298,12 @@ static void random_line(text *t, unsigned kind, int changed)
             field[0] = 0;
         else if (f > 2 && r.values == NULL && r.format == 'C' && r.size > 20 && below_n(3) == 0)
             strcpy(field, many("AZ \x80\xFF"[below_n(5)], 1 + below_n(r.size)));
+        else if (r.cpf_or_cnpj && below_n(2))
+            good_id(14, serial, field);
         else if (r.amount || r.months)
             sprintf(field, "%u", 1 + below_n(r.months ? 9999 : 2000000000));
+        if (changed && people_is_id(plain_name(kind), f) && field[0] && below_n(30) == 0)
+            spoil(field, strlen(field));
         if (changed && below_n(60) == 0)
             strcpy(field, odd[below_n(sizeof odd / sizeof *odd)]);
         add(t, field);
@@ -2064,6 +2428,76 @@ static void test_random_files(unsigned rounds)
     }
 }
 
+/* Where a CPF or CNPJ of a file stands. */
+typedef struct { size_t start, length; uint32_t line, field; } id_place;
+
+/* The n-th of the file, from 0; gives how many there are. */
+static unsigned nth_id(const text *t, unsigned n, id_place *out)
+{
+    unsigned count = 0;
+    uint32_t number = 1;
+    for (size_t start = 0, len; start < t->len; start += len + 2, number++) {
+        const uint8_t *line = t->bytes + start;
+        char name[16];
+        size_t s, length;
+        len = strcspn((const char *)line, "\r");
+        sprintf(name, "%.*s", (int)strcspn((const char *)line, "|"), line);
+        for (unsigned f = 2; plain_field(line, len, f, &s, &length); f++)
+            if (length > 0 && people_is_id(name, f) && count++ == n)
+                *out = (id_place){start + s, length, number, f};
+    }
+    return count;
+}
+
+/* A right file with one number spoiled is 26 there, whichever it is. */
+static void test_one_spoiled(unsigned rounds)
+{
+    unsigned long spoiled = 0;
+    for (unsigned i = 0; i < rounds; i++) {
+        text t = random_file(0);
+        id_place p = {0};
+        nth_id(&t, below_n(nth_id(&t, 0, &p)), &p);
+        spoil((char *)t.bytes + p.start, p.length);
+        if (people_right(t.bytes + p.start, p.length)) {
+            run(t.bytes, t.len, 10000);
+        } else {
+            expect("one number spoiled", &t, 26, p.line, p.field);
+            spoiled++;
+        }
+        drop(&t);
+    }
+    is_true(spoiled > rounds / 2, "spoiled files", spoiled, rounds);
+}
+
+/* Random digits with their right ending, which is found by trying, as the makers know one branch only. */
+static void random_id(size_t len, char *id)
+{
+    for (size_t i = 0; i < len; i++)
+        id[i] = (char)('0' + below_n(10));
+    id[len] = 0;
+    for (unsigned end = 0; end < 100 && !id_right(id); end++)
+        sprintf(id + len - 2, "%02u", end);
+}
+
+/* Random numbers in every field that holds them, a third of them spoiled. */
+static void test_random_ids(unsigned rounds)
+{
+    for (unsigned i = 0; i < rounds; i++) {
+        unsigned kind, f;
+        do {
+            kind = 1 + below_n(73);
+            f = 2 + below_n(13);
+        } while (!people_is_id(plain_name(kind), f));
+        plain_row r = plain_field_row(edition, kind, f);
+        size_t len = r.fixed ? r.size : below_n(2) ? 11 : 14;
+        char id[PEOPLE_ID], line[2048];
+        random_id(len, id);
+        if (below_n(3) == 0)
+            spoil(id, len);
+        test_field_written(kind, f, id, id_right(id) ? 0 : 26, line);
+    }
+}
+
 /* The first line of a file with one of the two records, or 0. */
 static uint32_t first_newer(const text *t)
 {
@@ -2154,10 +2588,12 @@ static void test_random_writes(unsigned rounds)
     }
 }
 
-/* Every number has to come up; tells how often each did. */
+/* Every number has to come up, but 25, which is the desk program's; tells how often each did. */
 static void test_numbers_seen(void)
 {
-    for (unsigned n = 0; n <= 24; n++) {
+    for (unsigned n = 0; n <= 26; n++) {
+        if (n == 25)
+            continue;
         is_true(given[n] > 0, "number seen", n, given[n]);
         printf("number %2u seen %lu times\n", n, given[n]);
     }
@@ -2185,9 +2621,12 @@ static void test_one_edition(unsigned rounds)
     test_keys();
     test_every_row();
     test_writer();
+    test_check_digits();
     test_editions();
     test_helpers();
     test_random_files(rounds);
+    test_one_spoiled(rounds / 3 + 10);
+    test_random_ids(rounds);
     test_exchanged(rounds / 10 + 10);
     test_cuts(rounds / 1000 + 2);
     test_random_bytes(rounds);
