@@ -12,9 +12,13 @@ CPF_SIZE, CNPJ_SIZE, CHECK_SIZE = 11, 14, 2
 FLAGS = {"DECPF": {"PSE": 6, "SCP": 7}, "DECPJ": {"SCP": 6, "PSE": 10}}
 
 
+def rest(digits, weights):
+    return sum(int(digit) * weight for digit, weight in zip(digits, weights)) % 11
+
+
 def check_digit(digits, weights):
-    rest = sum(int(digit) * weight for digit, weight in zip(digits, weights)) % 11
-    return "0" if rest < 2 else str(11 - rest)
+    left = rest(digits, weights)
+    return "0" if left < 2 else str(11 - left)
 
 
 def with_check_digits(digits, weights, front):

@@ -19,6 +19,8 @@ import tour as tour_page
 ROOT = os.path.dirname(os.path.dirname(os.path.abspath(__file__)))
 END = "\r\n"
 CPF, CNPJ, OTHER_CNPJ = makers.PERSON, makers.COMPANY, makers.cnpj(222223330001)
+# two digits swapped
+SWAPPED = "11144477753"
 
 # names, rows and lists are not typed again: tools/layout.txt has them
 LAYOUTS = layout.read()
@@ -373,28 +375,28 @@ def places():
         check(pj(tree + "\nFIMDirf"), 0, 5 + tree.count("\n"))
 
 
+# what stands between the declarant and a beneficiary
+LEAD = {
+    "BPFDEC": "  IDREC\n    ", "BPJDEC": "  IDREC\n    ", "BPFFCI": "  FCI\n    IDREC\n      ", "BPJFCI": "  FCI\n    IDREC\n      ",
+    "BPFPROC": "  PROC\n    IDREC\n      ", "BPJPROC": "  PROC\n    IDREC\n      ", "BPFRRA": "  RRA\n    IDREC\n      ",
+    "BPFSCP": "  SCP\n    ", "BPJSCP": "  SCP\n    ",
+}
+
+
 def below():
     """Every value record below every beneficiary, under both declarants, where the lists do not have it."""
-    lead = {
-        "BPFDEC": "  IDREC\n    ", "BPJDEC": "  IDREC\n    ", "BPFFCI": "  FCI\n    IDREC\n      ", "BPJFCI": "  FCI\n    IDREC\n      ",
-        "BPFPROC": "  PROC\n    IDREC\n      ", "BPJPROC": "  PROC\n    IDREC\n      ", "BPFRRA": "  RRA\n    IDREC\n      ",
-        "BPFSCP": "  SCP\n    ", "BPJSCP": "  SCP\n    ",
-    }
     for declarant, tree in (("DECPF", pf), ("DECPJ", pj)):
         for who, has in BELOW[declarant].items():
-            line = 5 + lead[who].count("\n")
+            line = 5 + LEAD[who].count("\n")
             for name in VALUES:
                 if name not in has:
-                    check(tree(lead[who] + who + "\n  " + name), 12, line, 1, spare=0)
+                    check(tree(LEAD[who] + who + "\n  " + name), 12, line, 1, spare=0)
 
 
 def orders():
     """20 and 21."""
-    two = [("BPFSCP", "  SCP\n    "), ("BPJSCP", "  SCP\n    "), ("BPFDEC", "  IDREC\n    "), ("BPJDEC", "  IDREC\n    "), ("BPFFCI",
-    "  FCI\n    IDREC\n      "),
-           ("BPJFCI", "  FCI\n    IDREC\n      "), ("BPFPROC", "  PROC\n    IDREC\n      "), ("BPJPROC", "  PROC\n    IDREC\n      "),
-           ("BPFRRA", "  RRA\n    IDREC\n      ")]
-    for name, lead in two:
+    for name in "BPFSCP BPJSCP BPFDEC BPJDEC BPFFCI BPJFCI BPFPROC BPJPROC BPFRRA".split():
+        lead = LEAD[name]
         size = len(cells_of(name)[1])
         fives = int("5" * (size - makers.CHECK_SIZE))
         same, more, less = [with_field(name, 2, makers.key(size, serial)) for serial in (fives, fives + 1, fives - 1)]
@@ -467,6 +469,7 @@ def faults():
     yield 16, pj(short + "      RIO|0|OUTROS|"), 6, 2
     yield 17, pj("  IDREC\n    " + with_field("BPFDEC", 4, "20230229")), 5, 4
     yield 18, pj("  IDREC\n    " + with_field("BPFDEC", 5, "X")), 5, 5
+    yield 26, pj("  IDREC\n    " + with_field("BPFDEC", 2, SWAPPED)), 5, 2
     yield 19, "Dirf\nRESPO\n" + with_field("DECPF", 8, "S"), 3, 9
     yield 21, pj(short + "      RTRT\n      RTRT"), 7, 1
     yield 20, pj("  IDREC\n  IDREC"), 5, 2
@@ -570,6 +573,17 @@ def ones(size):
     return makers.key(size, makers.serial_of("1" * size))
 
 
+# the sizes of what holds check digits
+IDENTITY = {"cpf": (11,), "cnpj": (14,), "cpfOrCnpj": (11, 14)}
+
+
+def neighbours(digits):
+    """The same number with one of its check digits one more or one less: each is wrong, whatever the other digit."""
+    for at in (len(digits) - 2, len(digits) - 1):
+        for step in (1, 9):
+            yield digits[:at] + str((int(digits[at]) + step) % 10) + digits[at + 1 :]
+
+
 def dates_taken():
     for day in "19000101 20991231 20240229 20000229 20240131 20240430 20241231".split():
         yield day, 0
@@ -627,6 +641,8 @@ def sized_taken(row):
     if row.fill == "fixed":
         yield ones(size) if row.format == "N" else filling * size, 0
         yield filling * (size - 1), 15
+    for count in IDENTITY.get(row.holds, ()):
+        yield next(neighbours(ones(count))), 26
     yield filling * (size + 1), 15
     if row.holds == "telephone":
         yield "11111111", 0
@@ -711,7 +727,7 @@ def conditions():
 
 
 def writer_order():
-    """22, 11, 23, 13 to 18, 19, 24."""
+    """22, 11, 23, 13 to 18 and 26, 19, 24."""
     cells = cells_of("IDREC")
     for kind in [0, 74, 75, 255, 256, 261, 65536 + 5, 2**31, 2**32 - 1] + [KIND[name] for name in LATER]:
         write(kind, cells, 22)
@@ -723,7 +739,7 @@ def writer_order():
         write(KIND[name], ["A"] * (count - 1), 11)
     write(KIND["IDREC"], ["A"] * 32, 11)
     write(KIND["IDREC"], [], 11, contents="IDREC0561")
-    # 11 against 23, 23 against 13 to 18
+    # 11 against 23, 23 against 13 to 18 and 26
     write(KIND["IDREC"], [], 11, contents="IDREC0561", lengths=[5, 5, 5])
     for lengths in ([5, 3], [5, 5], [0, 0], [4, 4], [9, 1], [10, 0], [2**64 - 1, 10], [2**63, 2**63 + 9], [2**64 - 1, 2**64 - 1], [5,
     2**64 - 5 + 4]):
@@ -741,6 +757,9 @@ def writer_order():
         for room in (0, 1, 2, size - 2, size - 1):
             write(KIND[name], cells_of(name), 24, room=room)
     write(KIND["IDREC"], with_cell("IDREC", 2, "056"), 15, 2, room=0)
+    write(KIND["BPFDEC"], with_cell("BPFDEC", 2, SWAPPED), 26, 2, room=0)
+    write(KIND["BPFDEC"], with_cell("BPFDEC", 2, SWAPPED), 23, contents="BPFDEC" + SWAPPED)
+    write(KIND["BPFDEC"], with_cell("BPFDEC", 2, SWAPPED)[:5], 11)
     write(KIND["DECPF"], with_cell("DECPF", 8, "S"), 19, 9, room=0)
     # the longest line that a record can have
     longest = ["RRA", "2", "P" * 20, "2", ones(14), "N" * 150, "9" * 13]
@@ -894,6 +913,143 @@ def tour():
         tour_before(lines, line, row)
     for line, text, answer in page.spoiled:
         check_lines(lines[: line - 1] + [(text, 0)] + lines[line:], *answer)
+
+
+# ---- check digits: document 02, A1. The numbers are written out; what each is there for is held by the makers' sums
+
+
+# right numbers: the sum for the first digit leaves 0, 1 and 10, and then that for the second
+RESTS = {
+    "12345680202": (0, 0), "12345678909": (0, 1), "12345679115": (0, 10),
+    "12345680040": (1, 0), "12345679620": (1, 1), "12345679891": (1, 10),
+    "12345678002805": (0, 0), "12345678000608": (0, 1), "12345678000519": (0, 10),
+    "12345678000780": (1, 0), "12345678003020": (1, 1), "12345678000861": (1, 10),
+}
+# of equal digits every CPF is right, and of the CNPJs that of zeros alone
+EQUAL = [digit * 11 for digit in "0123456789"] + ["0" * 14]
+# what a wrong rule would take: each weight one more, each one less, the weights of another place (one on, one back, from the other end);
+# the second digit right for a first that is not; for a CPF the first and the last ten of a CNPJ's weights
+TAKEN_BY_WRONG = """11144477708 11144477768 11144477723 11144477707 11144477725 11144477743 11144477765 11144477705
+11222333000117 11222333000149 11222333000150 11222333000160 11222333000147 11222333000190""".split()
+
+
+def rest_of(digits, which):
+    """What the sum for the first (0) or the second (1) check digit leaves."""
+    weights, front = (makers.CPF_WEIGHTS, 11) if len(digits) == makers.CPF_SIZE else (makers.CNPJ_WEIGHTS, 6)
+    return makers.rest(digits, [front] + weights if which else weights)
+
+
+def held(what, name):
+    if not what:
+        sys.exit(f"replay_cases.py: {name} is not what it is there for")
+
+
+def identity(digits, breach):
+    """A CPF below an IDREC, or a CNPJ, through the check and through the writer."""
+    held(makers.is_right(digits) == (breach == 0), digits)
+    name = "BPFDEC" if len(digits) == makers.CPF_SIZE else "BPJDEC"
+    field = 2 if breach else 0
+    check(pj("  IDREC\n    " + with_field(name, 2, digits) + "\nFIMDirf"), breach, 5 if breach else 6, field)
+    write(KIND[name], with_cell(name, 2, digits), breach, field)
+
+
+def check_digits():
+    """Right numbers and wrong ones: each remainder in either digit, a digit changed, two neighbours swapped, other weights."""
+    for digits, (which, left) in RESTS.items():
+        held(rest_of(digits, which) == left, digits)
+    for digits in [CPF, CNPJ, *RESTS, *EQUAL]:
+        identity(digits, 0)
+        for wrong in neighbours(digits):
+            identity(wrong, 26)
+    for digits in (CPF, CNPJ):
+        for at, digit in enumerate(digits):
+            identity(digits[:at] + str((int(digit) + 1) % 10) + digits[at + 1 :], 26)
+            if digits[at : at + 2] not in (digit, digit * 2):
+                identity(digits[:at] + digits[at + 1] + digit + digits[at + 2 :], 26)
+    for digits in TAKEN_BY_WRONG + ["1" * 14]:
+        identity(digits, 26)
+
+
+def standing(name, text):
+    """A tree that ends with this line of a record, and the line's number."""
+    top = {"RESPO": "Dirf\n", "DECPF": "Dirf\nRESPO\n", "DECPJ": "Dirf\nRESPO\n"}
+    lead = top.get(name) or pj(LEAD.get(name, "  "))
+    return lead + text, lead.count("\n") + 1
+
+
+def digit_fields():
+    """Every field that can be 26, through the check and the writer of either edition: right, wrong and, where it may be, empty."""
+    fields = [(name, field, row) for name, rows in ROWS.items() for field, row in enumerate(rows, 1) if row.holds in IDENTITY]
+    held(len(fields) == 18, "the list of fields that hold a CPF or a CNPJ")
+    for name, field, row in fields:
+        right = [ones(size) for size in IDENTITY[row.holds]] + [""] * (row.need == "optional")
+        wrong = [digits for size in IDENTITY[row.holds] for digits in neighbours(ones(size))]
+        for cell in right + wrong:
+            breach = 26 if cell in wrong else 0
+            cells = with_cells(name, {field: cell, **lawyer(row, cell)})
+            tree, line = standing(name, "|".join(cells) + "|")
+            for first in FIRST.values():
+                check(with_first(first, tree), breach or 1, line if breach else line + 1, field if breach else 0)
+            for edition in FIRST:
+                write(KIND[name], cells, breach, field if breach else 0, edition=edition)
+
+
+def with_cells(name, cells):
+    """The fields of a record with these put in, by their numbers."""
+    return [cells.get(field, cell) for field, cell in enumerate(cells_of(name), 1)]
+
+
+def lawyer(row, cell):
+    """Field 4 of PROC and RRA, which says whether field 5 is a person's or a company's."""
+    return {4: "2" if len(cell) == makers.CNPJ_SIZE else "1"} if row.holds == "cpfOrCnpj" else {}
+
+
+# two faults of one record: what stands in which fields, and the number and the field that are named
+DIGIT_PAIRS = [
+    # 13, 14, 15, 17 and 18 in a later and in an earlier field
+    ("DECPF", {2: SWAPPED, 3: ""}, 26, 2), ("DECPF", {3: "", 14: SWAPPED}, 13, 3),
+    ("DECPJ", {2: "11222333000118", 3: ""}, 26, 2), ("DECPJ", {3: "", 5: SWAPPED}, 13, 3),
+    ("RESPO", {2: SWAPPED, 4: "1x"}, 26, 2), ("DECPJ", {4: "x", 5: SWAPPED}, 14, 4),
+    ("BPFDEC", {2: SWAPPED, 3: "A" * 61}, 26, 2), ("DECPF", {3: "A" * 61, 14: SWAPPED}, 15, 3),
+    ("RESPO", {2: SWAPPED, 4: "01"}, 26, 2),
+    ("BPFDEC", {2: SWAPPED, 4: "20230229"}, 26, 2), ("DECPF", {9: "20230229", 14: SWAPPED}, 17, 9),
+    ("DECPF", {2: SWAPPED, 4: "X"}, 26, 2), ("DECPF", {4: "X", 14: SWAPPED}, 18, 4),
+    ("PROC", {4: "3", 5: SWAPPED}, 18, 4), ("PROC", {4: "1", 5: SWAPPED, 7: "0"}, 26, 5), ("RRA", {5: SWAPPED, 6: "N" * 151}, 26, 5),
+    # 14 and 15 of the same field
+    ("BPFDEC", {2: "111.444.777-53"}, 14, 2), ("BPFDEC", {2: "1114447775"}, 15, 2), ("BPFDEC", {2: CNPJ}, 15, 2),
+    ("PROC", {5: "1114447775x"}, 14, 5), ("PROC", {5: "111444777533"}, 15, 5),
+    # 26 twice, and 19
+    ("DECPJ", {2: "11222333000118", 5: SWAPPED}, 26, 2), ("DECPF", {2: SWAPPED, 14: SWAPPED}, 26, 2),
+    ("DECPF", {2: SWAPPED, 8: "S"}, 26, 2), ("DECPF", {8: "S", 14: SWAPPED}, 26, 14), ("DECPF", {8: "S", 14: CPF}, 19, 9),
+]
+
+
+def digit_pairs():
+    """26 against the others: by field, and in a line before 19, 20 and 7, behind 11 and 12."""
+    for name, cells, breach, field in DIGIT_PAIRS:
+        line = with_cells(name, cells)
+        tree, at = standing(name, "|".join(line) + "|")
+        check(tree, breach, at, field)
+        check(tree, breach, at, field, room=at - 1)
+        write(KIND[name], line, breach, field)
+    # 20: the key of a wrong number is smaller, or the same
+    low = with_field("BPFDEC", 2, "00000000199")
+    check(pj("  IDREC\n    BPFDEC\n    " + low), 26, 6, 2)
+    check(pj(f"  IDREC\n    {with_field('BPFDEC', 2, makers.cpf(1))}\n      RTRT\n    {low}\n      RTRT"), 26, 7, 2)
+    for digits, breach, field in ((SWAPPED, 26, 5), (CPF, 20, 2)):
+        check(pj("  PROC\n  " + "|".join(with_cells("PROC", {4: "1", 5: digits})) + "|"), breach, 5, field)
+    # 21 and 20 of an earlier line, 26 of a later one, and the other way about
+    check(pj("  IDREC\n    BPFDEC\n      RTRT\n      RTRT\n    " + low), 21, 7, 1)
+    check(pj(f"  IDREC\n    BPFDEC\n    {with_field('BPFDEC', 2, '99999999989')}\n    BPFDEC"), 26, 6, 2)
+    # 12 and 11: the fields are not looked at
+    check(pj("  IDREC\n    " + with_field("BPFFCI", 2, SWAPPED)), 12, 5, 1)
+    check(pj(f"  IDREC\n    =BPFDEC|{SWAPPED}|ANA LIMA|"), 11, 5)
+    # document 01's six lines, and no amount goes on to the person above
+    check(SIX.replace("BPFSCP", with_field("BPFSCP", 2, SWAPPED)), 26, 5, 2)
+    check(pj(f"  IDREC\n    BPFDEC\n      RTRT\n    {with_field('BPFDEC', 2, '52998224752')}\n      RTRT\nFIMDirf"), 26, 7, 2)
+    # which is the CPF's rule and which the CNPJ's, the length says
+    for digits in ("11144477765", "11144477705"):
+        check(pj("  " + "|".join(with_cells("PROC", {4: "1", 5: digits})) + "|"), 26, 4, 5)
 
 
 # ---- the two editions: document 02, A4, and of the older one what document 000 prints
@@ -1058,9 +1214,8 @@ def limits():
 
 def main(folder=os.path.join(ROOT, "crates", "replay")):
     for group in (marked, line_ends, identifiers, whole_files, places, below, orders, rooms, pairs, field_rules, identifier_rules,
-    conditions, writer_order,
-                  field_places, numbers, wrong_checkers, tour, first_lines, picked, later_lines, first_line_ends, older_files, gone,
-                  kinds_written, first_lines_written, limits):
+    conditions, writer_order, field_places, numbers, wrong_checkers, tour, check_digits, digit_fields, digit_pairs, first_lines, picked,
+    later_lines, first_line_ends, older_files, gone, kinds_written, first_lines_written, limits):
         group()
     with open(os.path.join(folder, "stdin"), "wb") as out:
         out.write(b"".join(RUN))
