@@ -86,7 +86,7 @@ pub fn right_either(s: &[u8]) -> bool
     ensures { λ r. ⌜ r ≡ (rightCPF (now (s .entry)) || rightCNPJ (now (s .entry))) ⌝ }
 {
     if s.len() == 11 {
-        return right_cpf(s);
+        return digits_right(&CPF[0..10], s);
     }
-    right_cnpj(s)
+    digits_right(&CNPJ[0..13], s)
 }

@@ -1,4 +1,3 @@
-use mathlib.Core.Path.{sym, _∙_}
 use mathlib.Core.Bool.{or-false}
 use native.Mathlib.Omega.{arith}
 use borrow.Author.Needs.{needs}
@@ -11,11 +10,21 @@ pub right-either-spec : {M : Type 1} → statement M
 right-either-spec =
     tie.close
     (tie.spec
+    (λ c. search needs)
+    (λ c. search needs)
+    (λ c. search needs)
     (λ c κs. search needs)
+    -- eleven digits are no CNPJ
     (λ c.
-    let s = c .before .before .before .args .s .now in
-    rw (other-size frontOfCNPJ weightsOfCNPJ s (λ e. omega (arith, e, c .before .if1 .taken)), or-false) (c .right-cpf .ensures))
+    let t = c .before .before .before in
+    let s = t .before .before .args .s .now in
+    rw (other-size frontOfCNPJ weightsOfCNPJ s (λ e. omega (arith, e, t .if1 .taken)), or-false) (c .digits-right .ensures))
+    (λ c. search needs)
+    (λ c. search needs)
+    (λ c. search needs)
     (λ c κs. search needs)
+    -- any other number of them no CPF
     (λ c.
-    let s = c .before .before .before .args .s .now in
-    rw (other-size frontOfCPF weightsOfCPF s (c .before .if1 .left)) (c .right-cnpj .ensures)))
+    let t = c .before .before .before in
+    let s = t .before .before .args .s .now in
+    rw (other-size frontOfCPF weightsOfCPF s (t .if1 .left)) (c .digits-right2 .ensures)))
