@@ -52,12 +52,13 @@ uint32_t decklesail_edition(const uint8_t *file, size_t file_len);
  *   16  a zero in front in an amount, month count or DDD    its own field
  *   17  no such date                                        its own field
  *   18  not one of the valid values                         its own field
+ *   26  a check digit of a CPF or CNPJ is wrong             its own field
  *   19  a condition is broken                               field 9, 10, 11 or 13, the lowest
  *   21  a value record repeated under one beneficiary       field 1
  *   20  key not greater                                     field 2
  *    7  the table holds fewer entries than the line's number  field 0
  *
- * 13 to 18 run field by field, lowest field first; all fields before 19. */
+ * 13 to 18 and 26 run field by field, lowest field first, 26 after 18 of the same field; all fields before 19. */
 uint32_t decklesail_check_number(const uint8_t *file, size_t file_len, size_t room);
 
 /* The line of that answer, counted from 1: on acceptance the last line of the file, on refusal the line refused; number 1 names the

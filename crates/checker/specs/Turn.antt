@@ -59,7 +59,7 @@ lookedFound file st r last =
 unfoldable pub entryOf : State → Record → Entry
 entryOf st r = record { kind = r .kind; start = st .at; len = r .len; parent = above (st .path .lines) (r .outer) }
 
--- 11, then 13 to 19; the kind was found by field 1, so that is its identifier
+-- 11, then 13 to 19 and 26; the kind was found by field 1, so that is its identifier
 unfoldable pub filledFound : List ℕ → Text → Places → ℕ → Found
 filledFound rows line p k =
     orElse (given 11 0 (not (eqb (p .count) (countIn rows k)))) (contentsFound k (cellAt line p 0) (rowsIn rows k) (cellsAt line p))

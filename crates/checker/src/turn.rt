@@ -135,7 +135,7 @@ pub(crate) fn entry_of(st: State, r: Record) -> Entry
     }
 }
 
-// 11, then 13 to 19. The kind was found by field 1, so that is its identifier.
+// 11, then 13 to 18 and 26 by field, then 19. The kind was found by field 1, so that is its identifier.
 fn filled_found(rows: &[u8; ROW_BYTES], line: &[u8], p: Places, k: u32) -> Finding
     ensures { λ f. ⌜ f ≡ findingOf (filledFound (now (rows .entry)) (now (line .entry)) p k) ⌝ }
 {
@@ -173,7 +173,7 @@ fn record_of(
     }
 }
 
-// 9, 10 and 12, then 11 and 13 to 19
+// 9, 10 and 12, then 11, 13 to 19 and 26
 fn read(rows: &[u8; ROW_BYTES], line: &[u8], st: State, p: Places, r: Record) -> Stepped
     requires { ⌜ Safe st ⌝ }
     ensures { λ s. ⌜ s ≡ readStep (now (rows .entry)) (now (line .entry)) st p r ⌝ }

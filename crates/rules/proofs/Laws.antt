@@ -20,7 +20,7 @@ or-keeps keeps = refl
 or-keeps (breaks n f) = refl
 
 module _ (k : ℕ) (name : Text) (rows : List Row) (cells : List Text) where
-  -- 13 to 18 field by field, then 19
+  -- 13 to 18 and 26 field by field, then 19
   pub in-parts : contentsFound k name rows cells ≡ orElse (askFields 1 fieldOrder name rows cells) (askConditions 19 conditionOrder k cells)
   unfolding first ask contentsFound
   in-parts = ap (orElse (askFields 1 fieldOrder name rows cells)) (or-keeps (askConditions 19 conditionOrder k cells))

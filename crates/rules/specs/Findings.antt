@@ -35,7 +35,7 @@ unfoldable pub findingOf : Found → Finding
 findingOf keeps = record { number = 0; field = 0 }
 findingOf (breaks number field) = record { number = number; field = field }
 
--- 13 to 18 field by field, then 19: of a kind, its identifier, its rows and the fields' contents
+-- 13 to 18 and 26 field by field, then 19: of a kind, its identifier, its rows and the fields' contents
 unfoldable pub contentsFound : ℕ → Text → List FieldRow → List Text → Found
 contentsFound k name rows cells = first contents (record { kind = k; name = name; rows = rows; cells = cells })
 

@@ -36,7 +36,7 @@ three true true true x y h = h refl refl
 -- no start is capped inside a text that is in memory
 module _ {e : Edition} {names rows : List ℕ} (say : Say e names rows) (k : ℕ) (text : Text) (ns : List ℕ) (room : ℕ)
     (small : length text ≤ 18446744073709551615) where
-  -- 13 to 19, then 24
+  -- 13 to 19 and 26, then 24
   abbrev later : List (Rule Writing)
   later = over (λ w. w .contents) contents ++ (gives 24 0 outputTooSmall ∷ [])
 

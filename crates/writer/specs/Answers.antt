@@ -29,7 +29,7 @@ misfitOf names rows k text lengths =
     else if not (eqb (sum lengths) (length text)) then 23
     else 0
 
--- 13 to 18 by field, then 19, of what stands along the lengths
+-- 13 to 18 and 26 by field, then 19, of what stands along the lengths
 unfoldable pub contentsAlong : List ℕ → List ℕ → ℕ → Text → List ℕ → Found
 contentsAlong names rows k text lengths = contentsFound k (nameIn names k) (rowsIn rows k) (cellsAt text (placesAlong lengths))
 

@@ -173,7 +173,7 @@ fn misfit(
     0
 }
 
-// 13 to 18 by field, then 19, of what stands along the lengths.
+// 13 to 18 and 26 by field, then 19, of what stands along the lengths.
 fn contents_refused(
     names: &[u8; layout::NAME_BYTES],
     rows: &[u8; layout::ROW_BYTES],
@@ -202,7 +202,7 @@ fn too_small(bytes: usize, count: usize, room: usize) -> bool
     left - 2 < count
 }
 
-// The first refusal: 22, 11, 23, 13 to 18 by field, 19, 24; its number is 0 where there is none.
+// The first refusal: 22, 11, 23, 13 to 18 and 26 by field, 19, 24; its number is 0 where there is none.
 fn refusal(
     names: &[u8; layout::NAME_BYTES],
     rows: &[u8; layout::ROW_BYTES],

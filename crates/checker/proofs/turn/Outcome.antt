@@ -54,7 +54,7 @@ module _ (e : Edition) (before : List Rec) (line : Text) where
   abbrev placeRule : Found
   placeRule = orElse (given 9 1 (eqb k 0)) (orElse (given 10 1 (isLater k)) (given 12 1 (not (mayStand e before k))))
 
-  -- 11, then 13 to 19
+  -- 11, then 13 to 19 and 26
   abbrev fillRule : Found
   fillRule =
       orElse (given 11 0 (not (eqb (length (fields line)) (length (rowsOf e k))))) (contentsFound k (nameOf e k) (rowsOf e k) (fields line))
