@@ -1,6 +1,5 @@
-use mathlib.Core.Path.{ap, _∙_}
 use borrow.Author.Needs.{needs}
-use Rattle.dirf.specs.Digits.{checkDigit, digitRight}
+use Rattle.dirf.specs.Digits.{digitRight}
 use Rattle.digits.proofs.digit_right.Statement.{statement}
 use Rattle.digits.proofs.digit_right.Tie as tie
 

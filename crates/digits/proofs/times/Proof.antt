@@ -1,4 +1,4 @@
-use Prim.Native.Nat.{_-_, _*_, _<_}
+use Prim.Native.Nat.{_-_, _<_}
 use mathlib.Core.Path.{_≡_, refl, sym}
 use native.Mathlib.Nat.{mul-zero, le-of-lt, lt-of-le-of-lt, mul-le-mul-left, mul-lt-mul-of-pos-right}
 use native.Mathlib.Omega.{arith}
