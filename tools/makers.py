@@ -1,6 +1,6 @@
 """Makers for the files of the suites: a CPF or a CNPJ of a serial number, and a declarant's line whose flags follow from its blocks.
 
-What they make is right: check digits by modulo 11, which are worked out here and in tests/makers/people.c and nowhere else, and each flag
+What they make is right: check digits by modulo 11, which of the makers this one and tests/makers/people.c alone work out, and each flag
 S exactly when its block is there. Greater serial numbers give greater CPFs and CNPJs.
 """
 # of the first check digit; that of the second has one more in front

@@ -3,18 +3,31 @@
 #ifndef TUNED_FIELDS_H
 #define TUNED_FIELDS_H
 
+#include "tuned_digits.h"
 #include "tuned_inner.h"
 #include "tuned_words.h"
 
+static inline int digits(const uint8_t *p, unsigned size)
+{
+    /* the two words overlap */
+    return (not_digits(load(p)) | not_digits(load(p + size - 8))) == 0 && p[size] == BAR;
+}
+
 /* Each of these goes on to behind the bar of a field that passes, or gives 0 and stays where the field begins. */
 
-static inline int digits(const uint8_t **at, unsigned size)
+static inline int cpf(const uint8_t **at)
 {
-    const uint8_t *p = *at;
-    /* the two words overlap */
-    if ((not_digits(load(p)) | not_digits(load(p + size - 8))) != 0 || p[size] != BAR)
+    if (!digits(*at, CPF_SIZE) || !cpf_right(*at))
         return 0;
-    *at = p + size + 1;
+    *at += CPF_SIZE + 1;
+    return 1;
+}
+
+static inline int cnpj(const uint8_t **at)
+{
+    if (!digits(*at, CNPJ_SIZE) || !cnpj_right(*at))
+        return 0;
+    *at += CNPJ_SIZE + 1;
     return 1;
 }
 
@@ -141,8 +154,8 @@ static inline walk pass_fields(walk w)
         switch (r->op) {
         case AMOUNT: passes = amounts(&at, r); break;
         case DUE: passes = due(&at, r->size); break;
-        case CPF: passes = digits(&at, 11); break;
-        case CNPJ: passes = digits(&at, 14); break;
+        case CPF: passes = cpf(&at); break;
+        case CNPJ: passes = cnpj(&at); break;
         case TEXT: passes = text(&at, r); break;
         case FLAG: passes = flags(&at, r->count); break;
         case DATE: passes = date(&at); break;

@@ -22,7 +22,9 @@ enum kind {
 enum edition { NEWER, OLDER, EDITIONS };
 
 /* How a field is judged; DUE is an amount that must be filled. Those before GENERAL have a quick way of their own. */
-enum op { DONE, AMOUNT, DUE, CPF, CNPJ, TEXT, FLAG, DATE, GENERAL, DIGITS = GENERAL, UP_TO, WORD, DDD, PHONE, EITHER };
+enum op { DONE, AMOUNT, DUE, CPF, CNPJ, TEXT, FLAG, DATE, GENERAL, DIGITS = GENERAL, UP_TO, WORD, DDD, PHONE, EITHER, OPTIONAL_CPF };
+
+enum { CPF_SIZE = 11, CNPJ_SIZE = 14 };
 
 /* One field, or `count` alike. Values, where there are any, stand one after another, each of the row's size. */
 typedef struct { uint8_t op, size, count, must, values; } row;
@@ -59,16 +61,20 @@ typedef struct {
 /* Looks on to the line's end, which may give a number that comes before the breach in document 01's order. */
 breach tuned_settle(const stopped *s);
 
-/* 0, or 13 to 18 of one field. */
+/* 0, or 13 to 18 or 26 of one field. */
 uint32_t tuned_rule(const row *r, const uint8_t *at, size_t len);
 
 /* Year, month, day in eight digits. */
 int tuned_is_date(const uint8_t *at);
 
-/* 0, or the lowest field of a DECPF in which a condition is broken; the line passed 13 to 18. */
+/* 0, or the lowest field of a DECPF in which a condition is broken; its fields passed. */
 uint32_t tuned_condition(const uint8_t *line);
 
 enum edition tuned_edition(const uint8_t *file, size_t len);
+
+/* The check digit, as a byte of a file, that a sum of weighted digits asks for; the greatest sum is 585, a CPF's. */
+enum { SUMS = 54 * 11 };
+extern const uint8_t tuned_check_digit[SUMS];
 
 /* What a byte is, in one look; the first two may stand in a text. */
 enum byte_class { A_CHARACTER, A_DIGIT, A_BAR, A_LINE_END };

@@ -29,7 +29,7 @@ static const row older_dirf[] = DIRF_ROWS(OLDER_YEAR, OLDER_CALENDAR_YEARS, OLDE
 static const row respo[] = {
     A_CPF, NAME(60), {DDD, 2, 1, MUST, ANY}, {PHONE, 9, 1, MUST, ANY}, {UP_TO, 6, 1, MAY, ANY}, {PHONE, 9, 1, MAY, ANY}, NOTE(50), LAST};
 static const row decpf[] = {
-    A_CPF, NAME(60), FLAGS(5), A_DATE, CHOICE(MAY, ONE_OR_TWO), FLAGS(1), A_DATE, CHOICE(MAY, ZERO_OR_ONE), {DIGITS, 11, 1, MAY, ANY},
+    A_CPF, NAME(60), FLAGS(5), A_DATE, CHOICE(MAY, ONE_OR_TWO), FLAGS(1), A_DATE, CHOICE(MAY, ZERO_OR_ONE), {OPTIONAL_CPF, 11, 1, MAY, ANY},
     NOTE(60), LAST};
 static const row decpj[] = {A_CNPJ, NAME(150), CHOICE(MUST, NATURES), A_CPF, FLAGS(8), A_DATE, LAST};
 static const row idrec[] = {{DIGITS, 4, 1, MUST, ANY}, LAST};

@@ -2,6 +2,7 @@
    DECPF's conditions, and the edition. */
 #include <string.h>
 
+#include "tuned_digits.h"
 #include "tuned_inner.h"
 
 enum { MOST_BYTES = 1024, MARK_FIELD = 6, MARK_SIZE = 7 };
@@ -10,6 +11,12 @@ const uint8_t tuned_class[256] = {
     ['0'] = A_DIGIT, ['1'] = A_DIGIT, ['2'] = A_DIGIT, ['3'] = A_DIGIT, ['4'] = A_DIGIT, ['5'] = A_DIGIT, ['6'] = A_DIGIT, ['7'] = A_DIGIT,
     ['8'] = A_DIGIT, ['9'] = A_DIGIT, [BAR] = A_BAR, [CR] = A_LINE_END, [LF] = A_LINE_END,
 };
+
+/* By the sum's remainder of 11. */
+#define ONCE '0', '0', '9', '8', '7', '6', '5', '4', '3', '2', '1'
+#define THRICE ONCE, ONCE, ONCE
+#define NINE_TIMES THRICE, THRICE, THRICE
+const uint8_t tuned_check_digit[SUMS] = {NINE_TIMES, NINE_TIMES, NINE_TIMES, NINE_TIMES, NINE_TIMES, NINE_TIMES};
 
 static int digits_only(const uint8_t *at, size_t len)
 {
@@ -23,7 +30,7 @@ static int size_right(const row *r, size_t len)
     switch (r->op) {
     case AMOUNT: case DUE: case TEXT: case UP_TO: return len <= r->size;
     case PHONE: return len == 8 || len == 9;
-    case EITHER: return len == 11 || len == 14;
+    case EITHER: return len == CPF_SIZE || len == CNPJ_SIZE;
     default: return len == r->size;
     }
 }
@@ -47,6 +54,15 @@ static int is_one_of(const char *values, const uint8_t *at, size_t size)
     return 0;
 }
 
+/* Of a field that holds a CPF or a CNPJ, whose size is right: whether its check digits are; of any other 1. */
+static int identity_right(const row *r, const uint8_t *at, size_t len)
+{
+    switch (r->op) {
+    case CPF: case CNPJ: case EITHER: case OPTIONAL_CPF: return len == CPF_SIZE ? cpf_right(at) : cnpj_right(at);
+    default: return 1;
+    }
+}
+
 uint32_t tuned_rule(const row *r, const uint8_t *at, size_t len)
 {
     int any_character = r->op == TEXT || r->op == FLAG || r->op == WORD;
@@ -60,7 +76,9 @@ uint32_t tuned_rule(const row *r, const uint8_t *at, size_t len)
         return 16;
     if (r->op == DATE && !tuned_is_date(at))
         return 17;
-    return tuned_values[r->values] == NULL || is_one_of(tuned_values[r->values], at, len) ? 0 : 18;
+    if (tuned_values[r->values] != NULL && !is_one_of(tuned_values[r->values], at, len))
+        return 18;
+    return identity_right(r, at, len) ? 0 : 26;
 }
 
 static uint32_t count_bars(const uint8_t *at, const uint8_t *end)

@@ -5,9 +5,9 @@
 #include "marks.h"
 #include "sound.h"
 
-static unsigned break_any(declaration *d)
+/* The number of the rule, or 0 where it could not be broken. */
+static unsigned broken(declaration *d, unsigned number)
 {
-    unsigned number = 1 + chance(RULES);
     return break_rule(d, number) ? number : 0;
 }
 
@@ -28,10 +28,11 @@ plan make_file(uint64_t seed, declaration *d, file_text *file)
     if (p.crossed)
         cross_line_one(d);
     unsigned way = chance(10);
+    /* 26 has many fields to come up in, so it alone has one file of ten */
     if (way >= 2 && way <= 7)
-        p.first = break_any(d);
+        p.first = broken(d, way == 2 ? WRONG_DIGITS : any_rule(1));
     if (way >= 4 && way <= 7)
-        p.second = break_any(d);
+        p.second = broken(d, any_rule(1));
     write_file(d, file);
     if (way == 9 && chance(4) == 0)
         noise(file);

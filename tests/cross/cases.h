@@ -5,9 +5,6 @@
 
 #include "declaration.h"
 
-/* The rules have document 01's numbers, from 1. */
-enum { RULES = 21 };
-
 /* What was done to a file: the numbers of up to two rules that were broken (0: none), whether line 1 was crossed, and whether bytes were
    damaged. */
 typedef struct {

@@ -63,7 +63,7 @@ void add_tail(file_text *file)
     static file_text tail;
     sound_declaration(&d);
     for (unsigned left = chance(3); left > 0; left--)
-        break_rule(&d, 1 + chance(21));
+        break_rule(&d, any_rule(1));
     write_file(&d, &tail);
     if (chance(2))
         damage_bytes(&tail);

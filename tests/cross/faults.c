@@ -212,7 +212,8 @@ static unsigned zero_in_front(const plain_row *row, uint8_t *text)
 
 static unsigned no_such_date(const plain_row *row, uint8_t *text)
 {
-    static const char *const dates[] = {"20230229", "19000229", "21000101", "18991231", "20240431", "20241301", "20240001", "20240100", "20240230", "00000000"};
+    static const char *const dates[] = {"20230229", "19000229", "21000101", "18991231", "20240431", "20241301", "20240001", "20240100",
+                                        "20240230", "00000000"};
     (void)row;
     sound_digits(8, text);
     if (chance(3))
@@ -319,10 +320,75 @@ static int repeated(declaration *d)
     return any_of_role(d, VALUE, VALUE, &at) && repeat_line(d, at);
 }
 
+/* ---- 26 */
+
+/* Swaps two neighbours that differ; 0 if there are none. */
+static int swap_neighbours(uint8_t *text, unsigned len)
+{
+    unsigned at = chance(len);
+    for (unsigned i = 0; i < len; i++, at = (at + 1) % len)
+        if (at + 1 < len && text[at] != text[at + 1]) {
+            uint8_t first = text[at];
+            text[at] = text[at + 1];
+            text[at + 1] = first;
+            return 1;
+        }
+    return 0;
+}
+
+/* Mostly two swapped, else another digit, a check digit as well as one before it. A few are right again. */
+static void spoil(uint8_t *text, unsigned len)
+{
+    if (chance(4) && swap_neighbours(text, len))
+        return;
+    uint8_t *digit = &text[chance(len)];
+    *digit = (uint8_t)('0' + (*digit - '0' + 1 + chance(9)) % 10);
+}
+
+/* An empty field is filled first. */
+static int spoil_field(text_line *line, unsigned f)
+{
+    plain_row row = plain_field_row(line->edition, line->kind, f);
+    uint8_t text[CNPJ_SIZE];
+    unsigned start, len;
+    if (find_field(line, f, &start, &len) && len == 0)
+        set_field(line, f, text, sound_identity(&row, text));
+    if (!find_field(line, f, &start, &len) || len == 0)
+        return 0;
+    spoil(line->bytes + start, len);
+    return 1;
+}
+
+/* Each field of these lines that holds a CPF or a CNPJ is as likely. */
+static int spoil_any(text_line *lines, unsigned count)
+{
+    text_line *line = NULL;
+    unsigned field = 0, found = 0;
+    for (unsigned i = 0; i < count; i++)
+        for (unsigned f = 1; f <= plain_fields(lines[i].edition, lines[i].kind); f++) {
+            plain_row row = plain_field_row(lines[i].edition, lines[i].kind, f);
+            if (holds_identity(&row) && chance(++found) == 0) {
+                line = &lines[i];
+                field = f;
+            }
+        }
+    return line != NULL && spoil_field(line, field);
+}
+
+int spoil_line(text_line *line)
+{
+    return spoil_any(line, 1);
+}
+
+static int wrong_digits(declaration *d)
+{
+    return spoil_any(d->line, d->count);
+}
+
 static int (*const breakers[])(declaration *) = {
     [1] = not_closed, [2] = after_the_end, [4] = too_long, [5] = cut_short, [6] = wrong_end, [8] = no_last_bar,
     [9] = unknown, [10] = left_for_later, [11] = wrong_count, [12] = misplaced, [19] = broken_condition, [20] = not_greater,
-    [21] = repeated,
+    [21] = repeated, [WRONG_DIGITS] = wrong_digits,
 };
 
 static int is_in_field(unsigned number)
@@ -333,6 +399,15 @@ static int is_in_field(unsigned number)
 int can_break(unsigned number)
 {
     return is_in_field(number) || (number < sizeof breakers / sizeof *breakers && breakers[number] != NULL);
+}
+
+unsigned any_rule(unsigned least)
+{
+    unsigned number;
+    do
+        number = least + chance(LAST_RULE + 1 - least);
+    while (!can_break(number));
+    return number;
 }
 
 int break_rule(declaration *d, unsigned number)

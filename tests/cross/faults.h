@@ -1,14 +1,23 @@
-/* Damage: one of document 01's numbers brought about in a declaration, or bytes of a file changed. */
+/* Damage: one of the numbers of documents 01 and 02 brought about in a declaration, or bytes of a file changed. */
 #ifndef FAULTS_H
 #define FAULTS_H
 
 #include "declaration.h"
 
-/* Tries to bring about this number, from 1 to 21; 3 and 7 are not in a file of this size. Gives 1 if something was changed. */
+/* A rule has the number that is given where it is broken. */
+enum { WRONG_DIGITS = 26, LAST_RULE = WRONG_DIGITS };
+
+/* Tries to bring about this number. Gives 1 if something was changed. */
 int break_rule(declaration *d, unsigned number);
 
-/* Whether the number is one that break_rule knows. */
+/* Whether the number is one that break_rule knows: 1 to 21 and 26, but for 3 and 7, which are not in a file of this size. */
 int can_break(unsigned number);
+
+/* One of those from `least` on, which is at most the last. */
+unsigned any_rule(unsigned least);
+
+/* Spoils one CPF or CNPJ of the line, as 26 does it. Gives 0 where its record holds none. */
+int spoil_line(text_line *line);
 
 /* Changes, drops, doubles or puts in a byte, or cuts the file anywhere. */
 void damage_bytes(file_text *file);

@@ -28,7 +28,7 @@ void make_fed(uint64_t seed, fed *c, met *m);
 /* The case as replay reads it. */
 void write_fed(FILE *out, const fed *c);
 
-/* The line that is demanded, with its LF; gives the first number in it. */
-unsigned demand_line(FILE *out, const fed *c);
+/* The line that is demanded, with its LF; gives the number in it and, of a file or a line, the field. */
+fault demand_line(FILE *out, const fed *c);
 
 #endif

@@ -46,17 +46,17 @@ static void put_hex(FILE *out, const uint8_t *bytes, size_t len)
         fprintf(out, "%02x", bytes[i]);
 }
 
-static unsigned demand_check(FILE *out, const fed *c)
+static fault demand_check(FILE *out, const fed *c)
 {
     static uint32_t table[MOST_TABLE];
     plain_answer a = plain_check(c->bytes, c->judged, table, c->number);
     fprintf(out, "%u %u %u %zu 1", a.number, a.line, a.field, a.entries);
     for (size_t i = 0; i < 4 * a.entries; i++)
         fprintf(out, " %u", table[i]);
-    return a.number;
+    return (fault){a.number, a.field};
 }
 
-static unsigned demand_written(FILE *out, const fed *c)
+static fault demand_written(FILE *out, const fed *c)
 {
     static uint8_t written[MOST_ROOM];
     size_t lengths[MOST_LENGTHS];
@@ -74,33 +74,33 @@ static unsigned demand_written(FILE *out, const fed *c)
     else
         fprintf(out, "%u %zu 1", w.number, w.count);
     put_hex(out, written, w.count);
-    return w.number;
+    return (fault){w.number, w.field};
 }
 
-static unsigned demand_place(FILE *out, const fed *c)
+static fault demand_place(FILE *out, const fed *c)
 {
     size_t start, length;
     int there = plain_field(c->bytes, c->len, c->number, &start, &length);
     fprintf(out, "%d %zu %zu", there, start, length);
-    return 0;
+    return (fault){0, 0};
 }
 
-static unsigned demand_value(FILE *out, const fed *c)
+static fault demand_value(FILE *out, const fed *c)
 {
     plain_number n = c->letter == 'A' ? plain_read_amount(c->bytes, c->len) : plain_read_months(c->bytes, c->len);
     fprintf(out, "%u %llu", n.number, (unsigned long long)n.value);
-    return n.number;
+    return (fault){n.number, 0};
 }
 
-unsigned demand_line(FILE *out, const fed *c)
+fault demand_line(FILE *out, const fed *c)
 {
-    unsigned number;
+    fault found;
     switch (c->letter) {
-    case 'C': number = demand_check(out, c); break;
-    case 'F': number = demand_place(out, c); break;
-    case 'A': case 'M': number = demand_value(out, c); break;
-    default: number = demand_written(out, c);
+    case 'C': found = demand_check(out, c); break;
+    case 'F': found = demand_place(out, c); break;
+    case 'A': case 'M': found = demand_value(out, c); break;
+    default: found = demand_written(out, c);
     }
     fputc('\n', out);
-    return number;
+    return found;
 }

@@ -45,7 +45,7 @@ static void check_case(fed *c, uint64_t seed, met *m)
     take_file(c, &file);
     plain_answer a = plain_check_room(c->bytes, c->len, c->number / 4);
     m->number[a.number]++;
-    count_file(m, (part){c->bytes, c->len}, a.number, a.line);
+    count_file(m, (part){c->bytes, c->len}, a, p);
     count_plan(m, &d, p, plain_edition_of(c->bytes, c->len), a.number);
 }
 
@@ -96,6 +96,14 @@ static void any_kind(text_line *line, plain_edition edition)
     sound_line(line, plain_is_base(edition, kind) ? edition : PLAIN_2025, kind);
 }
 
+/* One of any kind that holds a CPF or a CNPJ, in which one of these is wrong. */
+static void wrong_digits(text_line *line, plain_edition edition)
+{
+    do
+        any_kind(line, edition);
+    while (!spoil_line(line));
+}
+
 /* Now and then the writer is told the other edition than that of the line. */
 static void write_case(fed *c)
 {
@@ -104,10 +112,12 @@ static void write_case(fed *c)
     c->letter = chance(3) ? 'E' : 'W';
     c->edition = c->letter == 'W' ? PLAIN_2025 : chance(8) ? d.edition : other_than(d.edition);
     for (unsigned left = chance(3); left > 0; left--)
-        break_rule(&d, 11 + chance(11));
+        break_rule(&d, any_rule(11));
     text_line *line = &d.line[chance(d.count)];
     if (chance(2))
         any_kind(line, c->edition);
+    else if (chance(2))
+        wrong_digits(line, c->edition);
     c->number = line->kind;
     memset(c->lengths, 0, sizeof c->lengths);
     contents_of(c, line);

@@ -4,32 +4,49 @@
 #include <stdio.h>
 #include <string.h>
 
-#include "faults.h"
+#include "sound.h"
 
 enum { UNKNOWN = 9 };
 
-/* The kind that a line, counted from 1, is of in 2025; the lines before it are whole. */
-static uint32_t kind_in_line(part file, unsigned line)
+/* How many fields of an edition hold a CPF or a CNPJ. */
+enum { IDENTITY_FIELDS = 18 };
+
+/* The file from a line on, counted from 1; the lines before it are whole. */
+static part from_line(part file, unsigned line)
 {
-    size_t start, length;
     for (; line > 1; line--) {
         const uint8_t *end = memchr(file.bytes, LF, file.len);
         if (!end)
-            return NO_KIND;
+            return (part){file.bytes, 0};
         file = (part){end + 1, file.len - (size_t)(end + 1 - file.bytes)};
     }
-    plain_field(file.bytes, file.len, 1, &start, &length);
-    return plain_kind_of(PLAIN_2025, (part){file.bytes + start, length});
+    return file;
 }
 
-void count_file(met *m, part file, unsigned number, unsigned line)
+static part field_of(part line, unsigned f)
+{
+    size_t start, length;
+    plain_field(line.bytes, line.len, f, &start, &length);
+    return (part){line.bytes + start, length};
+}
+
+/* By field 26 counts only where its own rule was broken: another rule's fault or a damaged byte gives it now and then as well. */
+static int has_wrong_digits(plan p)
+{
+    return !p.damaged && (p.first == WRONG_DIGITS || p.second == WRONG_DIGITS);
+}
+
+void count_file(met *m, part file, plain_answer a, plan p)
 {
     plain_edition edition = plain_edition_of(file.bytes, file.len);
+    part line = from_line(file, a.line);
+    uint32_t kind = plain_kind_of(PLAIN_2025, field_of(line, 1));
     m->files[edition]++;
-    m->taken[edition] += number == 0;
-    uint32_t kind = number == UNKNOWN && edition == PLAIN_2022 ? kind_in_line(file, line) : NO_KIND;
-    if (kind != NO_KIND)
-        m->lacked[kind][line > 1]++;
+    m->taken[edition] += a.number == 0;
+    if (a.number == UNKNOWN && edition == PLAIN_2022 && kind != NO_KIND)
+        m->lacked[kind][a.line > 1]++;
+    if (a.number == WRONG_DIGITS && has_wrong_digits(p))
+        count_digits(&m->in_files, (identity){edition, kind, a.field, (unsigned)field_of(line, a.field).len});
 }
 
 void count_plan(met *m, const declaration *d, plan p, plain_edition edition, unsigned number)
@@ -49,6 +66,43 @@ void count_closed(met *m, part file, unsigned lines)
     plain_edition edition = plain_edition_of(file.bytes, file.len);
     m->closed[edition]++;
     m->begun[edition] += lines == 0;
+}
+
+static int holds(identity at)
+{
+    plain_row row = plain_field_row(at.edition, at.kind, at.field);
+    return (at.size == CPF_DIGITS && (row.cpf || row.cpf_or_cnpj)) || (at.size == CNPJ_DIGITS && (row.cnpj || row.cpf_or_cnpj));
+}
+
+/* Steps through the fields and sizes that 26 can be given for; 0 behind the last. */
+static int next_identity(identity *at)
+{
+    do {
+        at->size = at->size == CPF_DIGITS ? CNPJ_DIGITS : CPF_DIGITS;
+        at->field += at->size == CPF_DIGITS;
+        if (at->field > MOST_FIELDS) {
+            at->field = 1;
+            at->kind++;
+        }
+    } while (at->kind <= KINDS && !holds(*at));
+    return at->kind <= KINDS;
+}
+
+/* In front of an edition's first. */
+static identity before_all(plain_edition edition)
+{
+    return (identity){edition, NO_KIND, 0, CNPJ_DIGITS};
+}
+
+void count_digits(digits_met *m, identity at)
+{
+    if (holds(at))
+        m->count[at.edition][at.kind][at.field][at.size == CNPJ_DIGITS]++;
+}
+
+static unsigned long times_met(const digits_met *m, identity at)
+{
+    return m->count[at.edition][at.kind][at.field][at.size == CNPJ_DIGITS];
 }
 
 /* Whether only 2025 has the kind. */
@@ -86,10 +140,10 @@ static int not_met(const char *what, ...)
 static int rules_met(const met *m)
 {
     int all = 1;
-    for (unsigned a = 1; a <= RULES; a++) {
+    for (unsigned a = 1; a <= LAST_RULE; a++) {
         if (can_break(a) && m->alone[a] == 0)
             all = not_met("number %u from its rule broken alone", a);
-        for (unsigned b = 1; b <= RULES; b++)
+        for (unsigned b = 1; b <= LAST_RULE; b++)
             if (can_break(a) && can_break(b) && m->pair[a][b] == 0)
                 all = not_met("rules %u and %u broken together", a, b);
     }
@@ -117,9 +171,33 @@ static int lacked_met(const met *m)
     return all;
 }
 
+/* 26 in every field that can have it, with either size where it holds either. */
+static int all_digits_met(const digits_met *m, plain_edition edition, const char *where)
+{
+    int all = 1;
+    for (identity at = before_all(edition); next_identity(&at);)
+        if (times_met(m, at) == 0)
+            all = not_met("26 for %s %u with %u digits, %s of %u", plain_name(at.kind), at.field, at.size, where, year_of(edition));
+    return all;
+}
+
+/* That those are all the fields that there are. */
+static int fields_counted(plain_edition edition)
+{
+    unsigned fields = 0;
+    for (unsigned kind = 1; kind <= KINDS; kind++)
+        for (unsigned f = 1; f <= plain_fields(edition, kind); f++) {
+            plain_row row = plain_field_row(edition, kind, f);
+            fields += holds_identity(&row) != 0;
+        }
+    if (fields != IDENTITY_FIELDS)
+        return not_met("the %u fields of %u that hold a CPF or a CNPJ: there are %u", IDENTITY_FIELDS, year_of(edition), fields);
+    return 1;
+}
+
 static int edition_met(const met *m, plain_edition edition)
 {
-    int all = kinds_met(m, edition);
+    int all = kinds_met(m, edition) & fields_counted(edition) & all_digits_met(&m->in_files, edition, "in a file");
     if (m->taken[edition] == 0)
         all = not_met("an accepted file of %u", year_of(edition));
     if (m->closed[edition] == 0 || m->begun[edition] == 0 || m->fixed[edition] == 0)
@@ -130,15 +208,15 @@ static int edition_met(const met *m, plain_edition edition)
 int all_met(const met *m, unsigned most, unsigned left_out)
 {
     int all = rules_met(m) & lacked_met(m) & edition_met(m, PLAIN_2025) & edition_met(m, PLAIN_2022);
-    for (unsigned number = 0; number <= most; number++)
-        if (number != left_out && m->number[number] == 0)
+    for (unsigned number = 0; number <= LAST_RULE; number++)
+        if ((number <= most || number == WRONG_DIGITS) && number != left_out && m->number[number] == 0)
             all = not_met("number %u", number);
     return all;
 }
 
 int lines_met(const met *m)
 {
-    int all = 1;
+    int all = all_digits_met(&m->in_lines, PLAIN_2025, "in a line") & all_digits_met(&m->in_lines, PLAIN_2022, "in a line");
     for (unsigned kind = 1; kind <= KINDS; kind++) {
         for (plain_edition edition = PLAIN_2025; edition <= PLAIN_2022; edition++)
             if (plain_is_base(edition, kind) && m->written[edition][kind] == 0)
@@ -149,16 +227,28 @@ int lines_met(const met *m)
     return all;
 }
 
+/* The field that had 26 least. */
+static void print_least(const digits_met *m, plain_edition edition)
+{
+    identity least = before_all(edition);
+    for (identity at = least; next_identity(&at);)
+        if (least.kind == NO_KIND || times_met(m, at) < times_met(m, least))
+            least = at;
+    printf("26 came up least in %s %u with %u digits, %lu times\n", plain_name(least.kind), least.field, least.size, times_met(m, least));
+}
+
 void print_met(const char *name, unsigned long cases, unsigned long differ, const met *m)
 {
     printf("%s: %lu cases, %lu differ; by number", name, cases, differ);
-    for (unsigned number = 0; number < 26; number++)
+    for (unsigned number = 0; number <= LAST_RULE; number++)
         if (m->number[number])
             printf(" %u:%lu", number, m->number[number]);
     printf("\n");
-    for (plain_edition e = PLAIN_2025; e <= PLAIN_2022; e++)
-        printf("%s, %u: %lu files, %lu accepted; %lu cuts closed, %lu of them with no line; %lu cuts that no tail changes\n", name,
+    for (plain_edition e = PLAIN_2025; e <= PLAIN_2022; e++) {
+        printf("%s, %u: %lu files, %lu accepted; %lu cuts closed, %lu of them with no line; %lu cuts that no tail changes; ", name,
             year_of(e), m->files[e], m->taken[e], m->closed[e], m->begun[e], m->fixed[e]);
+        print_least(&m->in_files, e);
+    }
     for (unsigned kind = 1; kind <= KINDS; kind++)
         if (is_lacked(kind))
             printf("%s, 2022: 9 for %s: %lu in line 1, %lu later\n", name, plain_name(kind), m->lacked[kind][0], m->lacked[kind][1]);
@@ -172,7 +262,8 @@ void print_lines(const char *name, const met *m)
             lines += m->written[e][kind];
             kinds += m->written[e][kind] != 0;
         }
-        printf("%s, line writer told %u: %lu lines of %lu kinds\n", name, year_of(e), lines, kinds);
+        printf("%s, line writer told %u: %lu lines of %lu kinds; ", name, year_of(e), lines, kinds);
+        print_least(&m->in_lines, e);
     }
     for (unsigned kind = 1; kind <= KINDS; kind++)
         if (is_lacked(kind))

@@ -96,12 +96,15 @@ static void report(uint64_t seed)
 }
 
 /* What the line writer did with a kind, told the edition: 22 for a kind that 2025 has means that the older one lacks it. */
-static void count_line(met *m, unsigned number)
+static void count_line(met *m, fault found)
 {
     if (now.letter != 'E' || now.number > KINDS)
         return;
-    m->written[now.edition][now.number] += number == 0;
-    m->unwritten[now.number] += number == 22 && plain_is_base(PLAIN_2025, (unsigned)now.number);
+    unsigned kind = (unsigned)now.number;
+    m->written[now.edition][kind] += found.number == 0;
+    m->unwritten[kind] += found.number == 22 && plain_is_base(PLAIN_2025, kind);
+    if (found.number == WRONG_DIGITS)
+        count_digits(&m->in_lines, (identity){now.edition, kind, found.field, (unsigned)now.lengths[found.field - 1]});
 }
 
 static void run_batch(uint64_t seed, unsigned long count, met *m)
@@ -110,9 +113,9 @@ static void run_batch(uint64_t seed, unsigned long count, met *m)
     for (unsigned long i = 0; i < count; i++) {
         make_fed(seed + i, &now, m);
         write_fed(cases, &now);
-        unsigned number = demand_line(demanded, &now);
-        m->number[number] += now.letter != 'C';
-        count_line(m, number);
+        fault found = demand_line(demanded, &now);
+        m->number[found.number] += now.letter != 'C';
+        count_line(m, found);
     }
     fclose(cases);
     fclose(demanded);

@@ -62,12 +62,17 @@ static unsigned some_date(uint8_t *out)
     return 8;
 }
 
-/* Of a row that holds a CPF or a CNPJ its size, else 0: no other field of digits has a fixed 11 or 14. */
-static unsigned identity_size(const plain_row *row)
+int holds_identity(const plain_row *row)
 {
-    if (row->cpf_or_cnpj)
-        return chance(2) ? CPF_SIZE : CNPJ_SIZE;
-    return row->format == 'N' && row->fixed && (row->size == CPF_SIZE || row->size == CNPJ_SIZE) ? row->size : 0;
+    return row->cpf || row->cnpj || row->cpf_or_cnpj;
+}
+
+unsigned sound_identity(const plain_row *row, uint8_t *out)
+{
+    int person = row->cpf || (row->cpf_or_cnpj && chance(2));
+    unsigned size = person ? CPF_SIZE : CNPJ_SIZE;
+    make_identity(size, chance64(), (char *)out);
+    return size;
 }
 
 unsigned sound_field(const plain_row *row, uint8_t *out)
@@ -82,11 +87,8 @@ unsigned sound_field(const plain_row *row, uint8_t *out)
         return sound_digits(2, out);
     if (row->telephone)
         return some_digits(8 + chance(2), out);
-    unsigned identity = identity_size(row);
-    if (identity) {
-        make_identity(identity, chance64(), (char *)out);
-        return identity;
-    }
+    if (holds_identity(row))
+        return sound_identity(row, out);
     unsigned size = row->fixed || chance(8) == 0 ? row->size : 1 + chance(row->size);
     if (row->amount || row->months)
         return sound_digits(size, out);

@@ -7,6 +7,12 @@
 /* Contents that the row allows; gives their length. */
 unsigned sound_field(const plain_row *row, uint8_t *out);
 
+/* Whether a field of this row holds a CPF or a CNPJ. */
+int holds_identity(const plain_row *row);
+
+/* The CPF or the CNPJ that such a row holds, with right check digits; gives its length. */
+unsigned sound_identity(const plain_row *row, uint8_t *out);
+
 /* So many digits, the first no zero. */
 unsigned sound_digits(unsigned count, uint8_t *out);
 

@@ -1,6 +1,6 @@
 /* Makers for the files of the suites: a CPF or a CNPJ of a serial number, line 1 of each edition, and a declarant's line whose flags
    follow from its blocks.
-   What they make is right: check digits by modulo 11, which are worked out here and in tools/makers.py and nowhere else, and each flag S
+   What they make is right: check digits by modulo 11, which of the makers this one and tools/makers.py alone work out, and each flag S
    exactly when its block is there. Greater serial numbers give greater CPFs and CNPJs. */
 #ifndef PEOPLE_H
 #define PEOPLE_H

@@ -10,7 +10,7 @@ const CPF: [u8; 10] = [11, 10, 9, 8, 7, 6, 5, 4, 3, 2];
 
 const CNPJ: [u8; 13] = [6, 5, 4, 3, 2, 9, 8, 7, 6, 5, 4, 3, 2];
 
-// A digit times its weight.
+// A digit times its weight; a byte below the digits, which 14 keeps out of every field of the layout, counts nothing.
 fn times(weight: u8, b: u8) -> u16
     ensures { λ r. ⌜ r ≡ weight * (b - 48) ⌝ }
 {
