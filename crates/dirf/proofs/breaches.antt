@@ -2,6 +2,7 @@
 pub mod CleanLaws
 pub mod DigitLaws
 pub mod FieldLaws
+pub mod ConditionLaws
 pub mod TreeLaws
 pub mod KeysSay
 pub mod TestsSay

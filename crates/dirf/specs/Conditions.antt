@@ -6,9 +6,9 @@ use Rattle.dirf.specs.Bytes.{Text, bytes, same, isEmpty}
 use Rattle.dirf.specs.Kinds.{DECPF}
 use Rattle.dirf.specs.Lines.{field}
 
--- a condition on the fields of a kind: the field named, and when it is broken
+-- a condition on the fields of some kinds: the field named, and when it is broken
 pub record Condition : Type 0 where
-  pub kind : ℕ
+  pub kinds : List ℕ
   pub field : ℕ
   pub broken : List Text → Bool
 
@@ -34,10 +34,10 @@ estateStated cs = special cs && not (isEmpty (field 13 cs))
 -- "Conditions, DECPF only (000 and 004)", the lowest field first
 unfoldable pub conditionOrder : List Condition
 conditionOrder =
-    record { kind = DECPF; field = 9; broken = eventDateMissing } ∷
-    record { kind = DECPF; field = 10; broken = eventTypeMissing } ∷
-    record { kind = DECPF; field = 11; broken = deathNotStated } ∷
-    record { kind = DECPF; field = 13; broken = estateStated } ∷
+    record { kinds = DECPF ∷ []; field = 9; broken = eventDateMissing } ∷
+    record { kinds = DECPF ∷ []; field = 10; broken = eventTypeMissing } ∷
+    record { kinds = DECPF ∷ []; field = 11; broken = deathNotStated } ∷
+    record { kinds = DECPF ∷ []; field = 13; broken = estateStated } ∷
     []
 
 -- to compute with this file: `unfolding conditions-opens`

@@ -2,8 +2,7 @@
 use Prim.Native.Nat.{ℕ, suc}
 use mathlib.Core.Bool.{Bool, true, false, _&&_}
 use mathlib.Core.List.{List, [], _∷_}
-use lib.Dec.{eqb}
-use Rattle.dirf.specs.Bytes.{Text}
+use Rattle.dirf.specs.Bytes.{Text, isIn}
 use Rattle.dirf.specs.Row.{Row}
 use Rattle.dirf.specs.Fields.{FieldRule}
 use Rattle.dirf.specs.Conditions.{Condition}
@@ -49,7 +48,7 @@ askFields f xs name (r ∷ rs) (c ∷ cs) = orElse (askField f xs name r c) (ask
 -- 01: "The lowest field of 19 is named."
 unfoldable pub askConditions : ℕ → List Condition → ℕ → List Text → Found
 askConditions n [] k cs = keeps
-askConditions n (x ∷ xs) k cs = orElse (given n (x .field) (eqb k (x .kind) && x .broken cs)) (askConditions n xs k cs)
+askConditions n (x ∷ xs) k cs = orElse (given n (x .field) (isIn k (x .kinds) && x .broken cs)) (askConditions n xs k cs)
 
 module _ {A : Type 0} where
   unfoldable pub ask : Rule A → A → Found

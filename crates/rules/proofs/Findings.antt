@@ -1,28 +1,27 @@
--- What is found in a record's fields: what a finding is made of, field by field, and the conditions of DECPF.
+-- What is found in a record's fields: what a finding is made of, field by field, and of a broken condition.
 use Prim.Native.Nat.{ℕ, suc, _+_, _≤_, _<_}
 use mathlib.Core.Path.{_≡_, refl, sym, _∙_}
 use mathlib.Core.Logic.{_≢_}
-use mathlib.Core.Bool.{Bool, true, false, _&&_, not, and-assoc}
+use mathlib.Core.Bool.{Bool, true, false, _&&_}
 use mathlib.Core.List.{List, [], _∷_}
 use native.Mathlib.Omega.{arith}
 use native.Mathlib.Numerals.{add-one}
-use lib.Dec.{eqb}
+use lib.Dec.{eqb, ltb}
 use lib.ListN.{length, getD, drop, drop-of-length-le}
 use lib.Seq.{drop-cons}
-use borrow.Author.Tests.{ne-eqb}
-use Rattle.dirf.specs.Bytes.{if_then_else_, Text, isEmpty}
-use Rattle.dirf.specs.Kinds.{DECPF}
+use borrow.Author.Tests.{ne-eqb, ltb-true}
+use Rattle.dirf.specs.Bytes.{if_then_else_, Text, every, isIn}
 use Rattle.dirf.specs.Row.{Row}
-use Rattle.dirf.specs.Lines.{field}
 use Rattle.dirf.specs.Fields.{FieldRule, fieldOrder}
-use Rattle.dirf.specs.Conditions.{special, eventDateMissing, eventTypeMissing, deathNotStated, estateStated, conditionOrder}
-use Rattle.dirf.specs.Conditions.{conditions-opens}
+use Rattle.dirf.specs.Conditions.{Condition, conditionOrder}
 use Rattle.dirf.specs.Rules.{Found, keeps, breaks, given, orElse, askField, askFields, askConditions}
+use Rattle.dirf.proofs.tests.Bools.{and-left, and-right}
+use Rattle.conditions.specs.Broken.{fieldOf, brokenField}
 use Rattle.layout.specs.Tables.{countIn, rowsIn}
 use Rattle.layout.specs.Codes.{rowCodes, rowSaid}
 use Rattle.layout.proofs.Laws.{row-said, rows-length, rows-at}
 use Rattle.rules.specs.declared.Finding.{Finding}
-use Rattle.rules.specs.Findings.{numberOf, fieldOf, findingOf, conditionField, deathUnstated}
+use Rattle.rules.specs.Findings.{numberOf, findingOf}
 use Rattle.rules.proofs.FieldOrder.{nothing}
 
 -- a rule of field 0, named for another field
@@ -90,46 +89,26 @@ module _ (t : List ℕ) (k : ℕ) (name : Text) (cells : List Text) (i : ℕ) (h
     λ z. here ∙ rw (nothing name row (getD cells i []) (sym e ∙ z)),
   )
 
--- 19 is asked of DECPF alone
-pub no-conditions : (k : ℕ) (cells : List Text) → (k ≡ DECPF → ⊥) → askConditions 19 conditionOrder k cells ≡ keeps
-unfolding askConditions conditionOrder given orElse
-no-conditions k cells h = rw (ne-eqb k DECPF h)
-
 -- a finding of 19, by its field
 unfoldable pub at19 : ℕ → Finding
 at19 f = if eqb f 0 then record { number = 0; field = 0 } else record { number = 19; field = f }
 
-four : (a b c d : Bool) → Found
-four a b c d = orElse (given 19 9 a) (orElse (given 19 10 b) (orElse (given 19 11 c) (orElse (given 19 13 d) keeps)))
+-- a condition finds nothing, or its field, which is not 0
+or-at19 : (f : ℕ) (t : Bool) (later : Found) → 0 < f → findingOf later ≡ at19 (fieldOf later)
+    → findingOf (orElse (given 19 f t) later) ≡ at19 (fieldOf (orElse (given 19 f t) later))
+unfolding given orElse findingOf fieldOf at19
+or-at19 f true later h e = rw (ne-eqb f 0 (λ z. omega (arith, h, z)))
+or-at19 f false later h e = e
 
-four-19 : (a b c d : Bool) → findingOf (four a b c d) ≡ at19 (fieldOf (four a b c d))
-unfolding four given orElse findingOf fieldOf at19
-four-19 true b c d = refl
-four-19 false true c d = refl
-four-19 false false true d = refl
-four-19 false false false true = refl
-four-19 false false false false = refl
+module _ (k : ℕ) (cells : List Text) where
+  all-at19 : (xs : List Condition) → every (λ x. ltb 0 (x .field)) xs ≡ true
+      → findingOf (askConditions 19 xs k cells) ≡ at19 (fieldOf (askConditions 19 xs k cells))
+  unfolding every askConditions findingOf fieldOf at19
+  all-at19 [] e = refl
+  all-at19 (x ∷ xs) e =
+      or-at19 (x .field) (isIn k (x .kinds) && x .broken cells) (askConditions 19 xs k cells)
+      (ltb-true 0 (x .field) (and-left (ltb 0 (x .field)) _ e)) (all-at19 xs (and-right (ltb 0 (x .field)) _ e))
 
-pub conditions-19 : (cells : List Text) → findingOf (askConditions 19 conditionOrder DECPF cells) ≡ at19 (conditionField cells)
-unfolding askConditions conditionOrder conditionField four
-conditions-19 cells = four-19 (eventDateMissing cells) (eventTypeMissing cells) (deathNotStated cells) (estateStated cells)
-
--- the field by what the tests of DECPF answer
-unfoldable pub conditioned : Bool → Bool → Bool → Bool → Bool → ℕ
-conditioned special date type death estate =
-    if not special then 0 else if date then 9 else if type then 10 else if death then 11 else if estate then 0 else 13
-
-five : (s a b c d : Bool) → fieldOf (four (s && a) (s && b) (s && c) (s && not d)) ≡ conditioned s a b c d
-unfolding four given orElse fieldOf conditioned
-five false a b c d = refl
-five true true b c d = refl
-five true false true c d = refl
-five true false false true d = refl
-five true false false false true = refl
-five true false false false false = refl
-
-pub condition-field : (cells : List Text)
-    → conditionField cells
-    ≡ conditioned (special cells) (isEmpty (field 9 cells)) (isEmpty (field 10 cells)) (deathUnstated cells) (isEmpty (field 13 cells))
-unfolding askConditions conditions-opens conditionField deathUnstated four
-condition-field cells = rw and-assoc (five (special cells) _ _ (deathUnstated cells) _)
+  pub conditions-19 : findingOf (askConditions 19 conditionOrder k cells) ≡ at19 (brokenField k cells)
+  unfolding every conditionOrder brokenField
+  conditions-19 = all-at19 conditionOrder refl

@@ -1,16 +1,13 @@
 -- What is found in a record's fields, as the code answers it.
 use Prim.Native.Nat.{ℕ, _≤_}
 use mathlib.Core.Path.{_≡_}
-use mathlib.Core.Bool.{Bool, true, _&&_, not}
+use mathlib.Core.Bool.{Bool, true}
 use mathlib.Core.List.{List, [], _∷_}
 use lib.ListN.{length}
-use Rattle.dirf.specs.Bytes.{Text, bytes, every, isIn, same, lookup}
-use Rattle.dirf.specs.Kinds.{DECPF}
-use Rattle.dirf.specs.Lines.{field}
+use Rattle.dirf.specs.Bytes.{Text, every, isIn, lookup}
 use Rattle.dirf.specs.Row.{Row as FieldRow}
 use Rattle.dirf.specs.Fields.{rightByte}
-use Rattle.dirf.specs.Conditions.{conditionOrder}
-use Rattle.dirf.specs.Rules.{Found, keeps, breaks, askConditions, first}
+use Rattle.dirf.specs.Rules.{Found, keeps, breaks, first}
 use Rattle.dirf.specs.Order.{contents}
 use Rattle.dirf.specs.Amounts.{Reading}
 use Rattle.layout.specs.Tables.{formatOf}
@@ -26,10 +23,6 @@ use Rattle.rules.specs.declared.MonthRead.the-variants as month
 unfoldable pub numberOf : Found → ℕ
 numberOf keeps = 0
 numberOf (breaks number field) = number
-
-unfoldable pub fieldOf : Found → ℕ
-fieldOf keeps = 0
-fieldOf (breaks number field) = field
 
 unfoldable pub findingOf : Found → Finding
 findingOf keeps = record { number = 0; field = 0 }
@@ -74,11 +67,3 @@ amountSays (amount.Refused n) = record { number = n; value = 0 }
 abbrev pub monthSays : MonthRead → Reading
 monthSays (month.Value m) = record { number = 0; value = m .0 }
 monthSays (month.Refused n) = record { number = n; value = 0 }
-
--- the field that the first broken condition of DECPF names, 0 where none is broken
-unfoldable pub conditionField : List Text → ℕ
-conditionField cells = fieldOf (askConditions 19 conditionOrder DECPF cells)
-
--- of a declaration of special situation: field 10 is 1, and 11 is not S
-unfoldable pub deathUnstated : List Text → Bool
-deathUnstated cells = same (field 10 cells) (bytes "1") && not (same (field 11 cells) (bytes "S"))

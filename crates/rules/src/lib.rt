@@ -5,8 +5,8 @@ ghost use mathlib.Core.Path.{_≡_};
 ghost use mathlib.Core.Bool.{true, _&&_, not};
 ghost use mathlib.Core.List.{[], _∷_};
 ghost use Prim.Native.Nat.{_≤_, _^_, min};
-ghost use lib.ListN.{length, getD};
-ghost use Rattle.dirf.specs.Bytes.{every, some, isDigit, beginsWith, same, isEmpty};
+ghost use lib.ListN.{length};
+ghost use Rattle.dirf.specs.Bytes.{every, some, isDigit, beginsWith, same};
 ghost use Rattle.dirf.specs.Row.{N, variable};
 ghost use Rattle.dirf.specs.Numbers.{valueOf, isLeap, daysIn, isDay, isDate};
 ghost use Rattle.dirf.specs.Fields.{rightByte, fillsTo, sizeHeld, takesNoZero, dated, valid, digitsHeld, fieldOrder};
@@ -17,7 +17,7 @@ ghost use Rattle.fields.specs.Places.{cellsAt};
 ghost use Rattle.layout.specs.Tables.{formatOf, fillOf, holdsOf, rowsIn};
 ghost use Rattle.layout.specs.Codes.{rowSaid};
 ghost use Rattle.rules.specs.Findings.{numberOf, findingOf, contentsFound, onlyByte, amountSays, monthSays};
-ghost use Rattle.rules.specs.Findings.{letterOf, FilledRight, numberRead, conditionField, deathUnstated};
+ghost use Rattle.rules.specs.Findings.{letterOf, FilledRight, numberRead};
 
 // A number and a field: the first breach of a record's fields, 0 and 0 where there is none.
 pub struct Finding {
@@ -409,76 +409,11 @@ pub fn read_months(s: &[u8]) -> MonthRead
     MonthRead::Refused(n.number)
 }
 
-// Cell i, from 0, of what stands at the places; empty past the last.
-fn cell(bytes: &[u8], p: Places, i: usize) -> &[u8]
-    ensures { λ r. ⌜ now r ≡ getD (cellsAt (now (bytes .entry)) p) i [] ⌝ }
-{
-    if p.count <= i {
-        return &bytes[0..0];
-    }
-    if fields::MOST_FIELDS <= i {
-        return &bytes[0..0];
-    }
-    let start = p.starts[i];
-    let len = p.lens[i];
-    fields::part(bytes, start, len)
-}
-
-fn cell_is(bytes: &[u8], p: Places, i: usize, v: &[u8]) -> bool
-    ensures { λ r. ⌜ r ≡ same (getD (cellsAt (now (bytes .entry)) p) i []) (now (v .entry)) ⌝ }
-{
-    fields::same(cell(bytes, p, i), v)
-}
-
-fn cell_empty(bytes: &[u8], p: Places, i: usize) -> bool
-    ensures { λ r. ⌜ r ≡ isEmpty (getD (cellsAt (now (bytes .entry)) p) i []) ⌝ }
-{
-    cell(bytes, p, i).len() == 0
-}
-
-// Of a declaration of special situation: field 10 is 1, and 11 is not S.
-fn death_unstated(bytes: &[u8], p: Places) -> bool
-    ensures { λ r. ⌜ r ≡ deathUnstated (cellsAt (now (bytes .entry)) p) ⌝ }
-{
-    if !cell_is(bytes, p, 9, b"1") {
-        return false;
-    }
-    !cell_is(bytes, p, 10, b"S")
-}
-
-// The lowest field at which a condition of DECPF is broken, 0 where none is.
-fn decpf_condition(bytes: &[u8], p: Places) -> u32
-    ensures { λ r. ⌜ r ≡ conditionField (cellsAt (now (bytes .entry)) p) ⌝ }
-{
-    if !cell_is(bytes, p, 7, b"S") {
-        return 0;
-    }
-    if cell_empty(bytes, p, 8) {
-        return 9;
-    }
-    if cell_empty(bytes, p, 9) {
-        return 10;
-    }
-    if death_unstated(bytes, p) {
-        return 11;
-    }
-    if cell_empty(bytes, p, 12) {
-        return 0;
-    }
-    13
-}
-
 // 19: the lowest field at which a condition is broken.
 fn conditions_found(bytes: &[u8], p: Places, k: u32) -> Finding
     ensures { λ r. ⌜ r ≡ findingOf (askConditions 19 conditionOrder k (cellsAt (now (bytes .entry)) p)) ⌝ }
 {
-    if k != 3 {
-        return Finding {
-            number: 0,
-            field: 0,
-        };
-    }
-    let f = decpf_condition(bytes, p);
+    let f = conditions::broken_field(bytes, p, k);
     if f == 0 {
         return Finding {
             number: 0,

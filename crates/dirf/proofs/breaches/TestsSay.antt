@@ -3,12 +3,12 @@ use Prim.Native.Nat.{ℕ, suc, _≤_, _<_}
 use mathlib.Core.Path.{_≡_, refl, sym, ap, _∙_, subst, subst₂}
 use mathlib.Core.Bool.{Bool, true, false, not}
 use mathlib.Core.Logic.{_≢_, _⊎_, inl, inr, ⊎-elim}
-use mathlib.Core.List.{List, [], _∷_, _++_, List·Memᴰ·cases-cons, List·Memᴰ·not-nil, nil≢cons, head-eq-of-cons-eq}
+use mathlib.Core.List.{List, [], _∷_, _++_, List·Memᴰ·head, List·Memᴰ·cases-cons, List·Memᴰ·not-nil, nil≢cons, head-eq-of-cons-eq}
 use native.Mathlib.Omega.{arith}
 use lib.Dec.{eqb}
 use lib.ListN.{length, length-append}
 use borrow.Author.Tests.{not-true}
-use Rattle.dirf.specs.Bytes.{Text, bytes, every, same, endsWith}
+use Rattle.dirf.specs.Bytes.{Text, every, same, endsWith}
 use Rattle.dirf.specs.Limits.{bar, lineLimit, linesLimit}
 use Rattle.dirf.specs.Kinds.{DECPF, FIMDirf, later, values, isLater, standsOnce}
 use Rattle.dirf.specs.Row.{Row}
@@ -16,7 +16,7 @@ use Rattle.dirf.specs.Edition.{Edition, kindIn, kindOf}
 use Rattle.dirf.specs.Lines.{clean, unclean, fields, field}
 use Rattle.dirf.specs.Fields.{FieldTest, FieldRule, fieldOrder, obligatoryFieldEmpty, byteOfTheWrongKind, wrongSize, zeroInFront}
 use Rattle.dirf.specs.Fields.{noSuchDate, notAValidValue, wrongCheckDigits}
-use Rattle.dirf.specs.Conditions.{Condition, conditionOrder, special, eventDateMissing, eventTypeMissing, deathNotStated}
+use Rattle.dirf.specs.Conditions.{Condition, conditionOrder, eventDateMissing, eventTypeMissing, deathNotStated}
 use Rattle.dirf.specs.Conditions.{estateStated}
 use Rattle.dirf.specs.Rules.{Rule, gives, fieldByField, conditions}
 use Rattle.dirf.specs.Tree.{Rec}
@@ -31,11 +31,12 @@ use Rattle.dirf.specs.Theorems.Breach.{wrong-digits, no-event-date, no-e
 use Rattle.dirf.specs.Theorems.Sound.{Sound}
 use Rattle.dirf.specs.Theorems.Answered.{Closed, Given, by-test, by-field, by-condition, TestsSay}
 use Rattle.dirf.proofs.tests.Says.{Says, never, says-and, says-not, says-by, denies, says, eqb-says, ltb-says, isIn-says, same-says}
-use Rattle.dirf.proofs.tests.Says.{ends-says, it, on}
+use Rattle.dirf.proofs.tests.Says.{ends-says, it, on, alone}
 use Rattle.dirf.proofs.tests.Lists.{listed, Each, none, _also_, of-each}
 use Rattle.dirf.proofs.tests.Bools.{and-left, and-right, if-cases}
 use Rattle.dirf.proofs.breaches.CleanLaws.{clean-none, clean-unclean, clean-front, cut-says, stray-says}
 use Rattle.dirf.proofs.breaches.FieldLaws.{says-13, says-14, says-15, says-16, says-17, says-18, says-26}
+use Rattle.dirf.proofs.breaches.ConditionLaws.{date-missing-says, type-missing-says, death-says, estate-says}
 use Rattle.dirf.proofs.breaches.TreeLaws.{stands-says}
 use Rattle.dirf.proofs.breaches.KeysSay.{Under, LastOne, repeated-says, not-after-says, has-key-says}
 
@@ -134,28 +135,6 @@ module _ (h : Here) where
   unfolding noRoom lineNumber
   says-7 = ltb-says (h .room) (suc (length (h .before)))
 
--- 19: field 8 is S, and what else
-module _ (cs : List Text) where
-  special-says : Says (special cs) (field 8 cs ≡ bytes "S")
-  unfolding special
-  special-says = same-says (field 8 cs) (bytes "S")
-
-  date-missing-says : Says (eventDateMissing cs) ((field 8 cs ≡ bytes "S") × (field 9 cs ≡ []))
-  unfolding eventDateMissing
-  date-missing-says = search (says, special-says)
-
-  type-missing-says : Says (eventTypeMissing cs) ((field 8 cs ≡ bytes "S") × (field 10 cs ≡ []))
-  unfolding eventTypeMissing
-  type-missing-says = search (says, special-says)
-
-  death-says : Says (deathNotStated cs) (((field 8 cs ≡ bytes "S") × (field 10 cs ≡ bytes "1")) × (field 11 cs ≢ bytes "S"))
-  unfolding deathNotStated
-  death-says = search (says, special-says)
-
-  estate-says : Says (estateStated cs) ((field 8 cs ≡ bytes "S") × (field 13 cs ≢ []))
-  unfolding estateStated
-  estate-says = search (says, special-says)
-
 -- what a rule of a line gives is a breach
 abbrev Means : Here → Rule Here → Type 0
 Means h r = (n f : ℕ) → Given h n f r → Breach h n f
@@ -194,13 +173,13 @@ module _ (h : Here) (named : Named h) where
 
   -- and each condition
   conditions-mean : Each
-      (λ (x : Condition). h .contents .kind ≡ x .kind → x .broken cells ≡ true → Breach h 19 (x .field)) conditionOrder
+      (λ (x : Condition). h .contents .kind ∈ x .kinds → x .broken cells ≡ true → Breach h 19 (x .field)) conditionOrder
   unfolding conditionOrder
   conditions-mean =
-      (λ e t. let q = date-missing-says cells .0 t in no-event-date e (q .0) (q .1))
-      also (λ e t. let q = type-missing-says cells .0 t in no-event-type e (q .0) (q .1))
-      also (λ e t. let q = death-says cells .0 t in no-death e (q .0 .0) (q .0 .1) (q .1))
-      also (λ e t. let q = estate-says cells .0 t in estate e (q .0) (q .1))
+      (λ m t. let q = date-missing-says cells .0 t in no-event-date (alone m) (q .0) (q .1))
+      also (λ m t. let q = type-missing-says cells .0 t in no-event-type (alone m) (q .0) (q .1))
+      also (λ m t. let q = death-says cells .0 t in no-death (alone m) (q .0 .0) (q .0 .1) (q .1))
+      also (λ m t. let q = estate-says cells .0 t in estate (alone m) (q .0) (q .1))
       also none
 
   all-fields-mean : Means h (fieldByField fieldOrder (λ h. h .contents))
@@ -249,7 +228,7 @@ module _ (h : Here) (named : Named h) where
   by-field-rule {n} {r = r} {s = s} test m i t =
       (fieldByField fieldOrder (λ h. h .contents), search listed depth 40, by-field (n, test) r s m refl (i .0) (i .1) t)
 
-  by-condition-rule : (x : Condition) → x ∈ conditionOrder → h .contents .kind ≡ x .kind → x .broken cells ≡ true
+  by-condition-rule : (x : Condition) → x ∈ conditionOrder → h .contents .kind ∈ x .kinds → x .broken cells ≡ true
       → GivenSome 19 (x .field)
   unfolding order
   by-condition-rule x m e t = (conditions 19 conditionOrder (λ h. h .contents), search listed depth 40, by-condition x refl m refl e t)
@@ -275,13 +254,13 @@ module _ (h : Here) (named : Named h) where
   breach-given (invalid f r s i e q) = by-field-rule notAValidValue (search listed depth 20) i (says-18 name r s .1 (e, q))
   breach-given (wrong-digits f r s i e q) = by-field-rule wrongCheckDigits (search listed depth 20) i (says-26 name r s .1 (e, q))
   breach-given (no-event-date e s q) =
-      by-condition-rule record { kind = DECPF; field = 9; broken = eventDateMissing } (search listed) e (date-missing-says cells .1 (s, q))
+      by-condition-rule record { kinds = DECPF ∷ []; field = 9; broken = eventDateMissing } (search listed) (List·Memᴰ·head e) (date-missing-says cells .1 (s, q))
   breach-given (no-event-type e s q) =
-      by-condition-rule record { kind = DECPF; field = 10; broken = eventTypeMissing } (search listed) e (type-missing-says cells .1 (s, q))
+      by-condition-rule record { kinds = DECPF ∷ []; field = 10; broken = eventTypeMissing } (search listed) (List·Memᴰ·head e) (type-missing-says cells .1 (s, q))
   breach-given (no-death e s t q) =
-      by-condition-rule record { kind = DECPF; field = 11; broken = deathNotStated } (search listed) e (death-says cells .1 ((s, t), q))
+      by-condition-rule record { kinds = DECPF ∷ []; field = 11; broken = deathNotStated } (search listed) (List·Memᴰ·head e) (death-says cells .1 ((s, t), q))
   breach-given (estate e s q) =
-      by-condition-rule record { kind = DECPF; field = 13; broken = estateStated } (search listed) e (estate-says cells .1 (s, q))
+      by-condition-rule record { kinds = DECPF ∷ []; field = 13; broken = estateStated } (search listed) (List·Memᴰ·head e) (estate-says cells .1 (s, q))
   breach-given (again v r m u) = by-rule valueRecordRepeated (search listed depth 40) (says-21 h .1 (v, (r, m, (u .1, u .0))))
   breach-given (not-greater q since r earlier e u n l) =
       let last : LastOne (h .before) (h .parent) (h .contents .kind) r =

@@ -5,9 +5,9 @@ use mathlib.Core.Bool.{Bool, true, false, _&&_}
 use mathlib.Core.Logic.{_⊎_, inl, inr, ⊎-elim}
 use mathlib.Core.List.{List, [], _∷_, List·Memᴰ·head, List·Memᴰ·tail}
 use native.Mathlib.Omega.{arith}
-use lib.Dec.{eqb, ltb}
-use borrow.Author.Tests.{eqb-true, ltb-true}
-use Rattle.dirf.specs.Bytes.{Text, every}
+use lib.Dec.{ltb}
+use borrow.Author.Tests.{ltb-true}
+use Rattle.dirf.specs.Bytes.{Text, every, isIn}
 use Rattle.dirf.specs.Row.{Row}
 use Rattle.dirf.specs.Fields.{FieldTest, FieldRule}
 use Rattle.dirf.specs.Conditions.{Condition}
@@ -16,7 +16,7 @@ use Rattle.dirf.specs.Rules.{askConditions, ask, first}
 use Rattle.dirf.specs.Theorems.Plain.{_∈_, Nth, this, next}
 use Rattle.dirf.specs.Theorems.Answered.{Given, by-test, by-field, by-condition}
 use Rattle.dirf.proofs.tests.Bools.{and-left, and-right}
-use Rattle.dirf.proofs.tests.Says.{it, on}
+use Rattle.dirf.proofs.tests.Says.{isIn-says, it, on}
 use Rattle.dirf.proofs.tests.Lists.{every-in}
 
 pub keeps≢breaks : {n f : ℕ} → keeps ≡ breaks n f → ⊥
@@ -87,7 +87,7 @@ unfolding askField
 field-tries f name r s = record { nothing = refl; further = λ x xs. refl }
 
 pub condition-tries : (n k : ℕ) (cs : List Text)
-    → Tries (λ (x : Condition). given n (x .field) (eqb k (x .kind) && x .broken cs)) (λ xs. askConditions n xs k cs)
+    → Tries (λ (x : Condition). given n (x .field) (isIn k (x .kinds) && x .broken cs)) (λ xs. askConditions n xs k cs)
 unfolding askConditions
 condition-tries n k cs = record { nothing = refl; further = λ x xs. refl }
 
@@ -139,9 +139,9 @@ ask-breaks (fieldByField xs of) a {f = f} e =
     by-field x r s m q (subst (λ i. Nth (of a .rows) i r) here j) (subst (λ i. Nth (of a .cells) i s) here l) t)
 ask-breaks (conditions m xs of) a e =
     let h = one-breaks _ _ (condition-tries m (of a .kind) (of a .cells)) xs e in
-    let kind = eqb (of a .kind) (h .0 .kind) in
+    let kind = isIn (of a .kind) (h .0 .kinds) in
     let g = given-breaks m (h .0 .field) (kind && h .0 .broken (of a .cells)) (h .2) in
-    by-condition (h .0) (g .0) (h .1) (g .1) (eqb-true _ _ (and-left kind _ (g .2))) (and-right kind _ (g .2))
+    by-condition (h .0) (g .0) (h .1) (g .1) (isIn-says _ _ .0 (and-left kind _ (g .2))) (and-right kind _ (g .2))
 
 -- every number that a rule can give passes a test
 abbrev pub numbersPass : {A : Type 0} → (ℕ → Bool) → Rule A → Bool

@@ -4,13 +4,13 @@ use mathlib.Core.Path.{_≡_, sym, _∙_}
 use mathlib.Core.Bool.{false, true≢false}
 use mathlib.Core.Logic.{_↔_, ⊎-elim}
 use mathlib.Core.List.{List}
-use borrow.Author.Tests.{eq-eqb}
 use Rattle.dirf.specs.Bytes.{Text}
 use Rattle.dirf.specs.Row.{Row}
 use Rattle.dirf.specs.Fields.{FieldRule}
 use Rattle.dirf.specs.Rules.{keeps, Rule, askField, askFields, ask, first}
 use Rattle.dirf.specs.Theorems.Plain.{_∈_, Nth, this, next}
 use Rattle.dirf.specs.Theorems.Answered.{Given, by-test, by-field, by-condition}
+use Rattle.dirf.proofs.tests.Says.{isIn-says}
 use Rattle.dirf.proofs.rules.Asked.{found-cases, given-false, or-else-left, or-else-right, one-kept, all-kept, first-tries}
 use Rattle.dirf.proofs.rules.Asked.{condition-tries, field-kept, ask-breaks}
 
@@ -29,7 +29,7 @@ module _ {A : Type 0} where
   keeps-gives-none e (by-field {xs} x r s m p i j t) = true≢false (sym t ∙ row-kept xs _ 1 i j e x m)
   keeps-gives-none {a} e (by-condition {m = n} {xs} {of} x q m p k t) =
       let kept = given-false n (x .field) _ (one-kept _ _ (condition-tries n (of a .kind) (of a .cells)) m e) in
-      true≢false (sym t ∙ (rw (eq-eqb (of a .kind) (x .kind) k) at kept))
+      true≢false (sym t ∙ (rw (isIn-says (of a .kind) (x .kinds) .1 k) at kept))
 
   pub none-given-keeps : (a : A) (r : Rule A) → ((n f : ℕ) → Given a n f r → ⊥) → ask r a ≡ keeps
   none-given-keeps a r no-one = ⊎-elim (λ q. q) (λ b. absurd (no-one (b .0) (b .1) (ask-breaks r a (b .2)))) (found-cases (ask r a))

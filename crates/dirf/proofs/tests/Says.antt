@@ -72,6 +72,9 @@ it = List·Memᴰ·head refl
 pub on : {A : Type 0} {x y : A} {xs : List A} → x ∈ xs → x ∈ (y ∷ xs)
 on m = List·Memᴰ·tail m
 
+pub alone : {A : Type 0} {x y : A} → x ∈ (y ∷ []) → x ≡ y
+alone m = ⊎-elim (λ e. e) (λ m. absurd (List·Memᴰ·not-nil m)) (List·Memᴰ·cases-cons m)
+
 module _ {A : Type 0} {P : A → Type 0} (test : A → Bool) (says : (x : A) → Says (test x) (P x)) where
   pub some-says : (xs : List A) → Says (some test xs) ((x : A) × (x ∈ xs) × P x)
   unfolding some
@@ -95,8 +98,7 @@ isIn-says k ks = says-by (λ h. Memᴰ·cast (h .2) (h .1)) (λ m. (k, m, refl))
 
 -- a list of one or two numbers
 pub one-says : (k a : ℕ) → Says (isIn k (a ∷ [])) (k ≡ a)
-one-says k a =
-    says-by (λ m. ⊎-elim (λ e. e) (λ m. absurd (List·Memᴰ·not-nil m)) (List·Memᴰ·cases-cons m)) List·Memᴰ·head (isIn-says k (a ∷ []))
+one-says k a = says-by alone List·Memᴰ·head (isIn-says k (a ∷ []))
 
 pub two-says : (k a b : ℕ) → Says (isIn k (a ∷ b ∷ [])) ((k ≡ a) ⊎ (k ≡ b))
 unfolding isIn some

@@ -72,7 +72,7 @@ pub data Given {A : Type 0} (a : A) (n f : ℕ) : Rule A → Type 0 where
   by-field : {xs : List FieldRule} {of : A → Contents} (x : FieldRule) (r : Row) (s : Text) → x ∈ xs → x .0 ≡ n
       → Nth (of a .rows) f r → Nth (of a .cells) f s → x .1 (of a .name) r s ≡ true → Given a n f (fieldByField xs of)
   by-condition : {m : ℕ} {xs : List Condition} {of : A → Contents} (x : Condition) → m ≡ n → x ∈ xs → x .field ≡ f
-      → of a .kind ≡ x .kind → x .broken (of a .cells) ≡ true → Given a n f (conditions m xs of)
+      → of a .kind ∈ x .kinds → x .broken (of a .cells) ≡ true → Given a n f (conditions m xs of)
 
 -- each test of the list says what document 01's table says in plain mathematics, and the list has them all
 abbrev pub TestsSay : Edition → Type 0

@@ -1,7 +1,7 @@
 use borrow.Author.Needs.{needs}
 use borrow.Author.Tests.{eq-eqb, ne-eqb}
 use Rattle.rules.specs.Findings.{findingOf}
-use Rattle.rules.proofs.Findings.{no-conditions, at19, conditions-19}
+use Rattle.rules.proofs.Findings.{at19, conditions-19}
 use Rattle.rules.proofs.conditions_found.Statement.{statement}
 use Rattle.rules.proofs.conditions_found.Tie as tie
 
@@ -10,7 +10,6 @@ unfolding findingOf at19
 conditions-found-spec =
     tie.close
     (tie.spec
-    (λ c. rw (no-conditions _ _ (c .if1 .taken)))
     (λ c κs. search needs)
-    (λ c. rw (c .before .before .if1 .left, conditions-19, ← c .before .decpf-condition .ensures, eq-eqb _ 0 (c .if2 .taken)))
-    (λ c. rw (c .before .before .if1 .left, conditions-19, ← c .before .decpf-condition .ensures, ne-eqb _ 0 (c .if2 .left))))
+    (λ c. rw (conditions-19, ← c .before .broken-field .ensures, eq-eqb _ 0 (c .if1 .taken)))
+    (λ c. rw (conditions-19, ← c .before .broken-field .ensures, ne-eqb _ 0 (c .if1 .left))))

@@ -8,8 +8,8 @@ use Rattle.dirf.specs.Bytes.{Text}
 use Rattle.fields.specs.declared.Places.{Places}
 use Rattle.fields.specs.Places.{mostFields, cellAt, cellsAt}
 use Rattle.fields.proofs.PlaceLaws.{cell-at, cells-length}
-use Rattle.rules.proofs.cell.Statement.{statement}
-use Rattle.rules.proofs.cell.Tie as tie
+use Rattle.conditions.proofs.cell.Statement.{statement}
+use Rattle.conditions.proofs.cell.Tie as tie
 
 past : (s : Text) (p : Places) (i : ℕ) → min mostFields (p .count) ≤ i → [] ≡ getD (cellsAt s p) i []
 past s p i h = sym (List·getD-eq-default (cellsAt s p) [] (omega (arith, cells-length s p)))

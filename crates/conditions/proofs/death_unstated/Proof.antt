@@ -3,9 +3,9 @@ use mathlib.Core.Bool.{not}
 use borrow.Author.Needs.{needs}
 use borrow.Author.Tests.{not-true, not-false}
 use Rattle.dirf.specs.Lines.{field}
-use Rattle.rules.specs.Findings.{deathUnstated}
-use Rattle.rules.proofs.death_unstated.Statement.{statement}
-use Rattle.rules.proofs.death_unstated.Tie as tie
+use Rattle.conditions.specs.Broken.{deathUnstated}
+use Rattle.conditions.proofs.death_unstated.Statement.{statement}
+use Rattle.conditions.proofs.death_unstated.Tie as tie
 
 pub death-unstated-spec : {M : Type 1} → statement M
 unfolding field deathUnstated

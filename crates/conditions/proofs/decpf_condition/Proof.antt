@@ -7,10 +7,10 @@ use Rattle.dirf.specs.Bytes.{Text, isEmpty}
 use Rattle.dirf.specs.Lines.{field}
 use Rattle.dirf.specs.Conditions.{special}
 use Rattle.fields.specs.Places.{cellsAt}
-use Rattle.rules.specs.Findings.{deathUnstated}
-use Rattle.rules.proofs.Findings.{conditioned, condition-field}
-use Rattle.rules.proofs.decpf_condition.Statement.{statement}
-use Rattle.rules.proofs.decpf_condition.Tie as tie
+use Rattle.conditions.specs.Broken.{deathUnstated}
+use Rattle.conditions.proofs.Fields.{conditioned, condition-field}
+use Rattle.conditions.proofs.decpf_condition.Statement.{statement}
+use Rattle.conditions.proofs.decpf_condition.Tie as tie
 
 abbrev cells : tie.Start → List Text
 cells t = cellsAt (t .args .bytes .now) (t .args .p)

@@ -6,8 +6,8 @@ use borrow.Author.Tests.{ne-eqb}
 use lib.Dec.{eqb}
 use lib.ListN.{length}
 use Rattle.dirf.specs.Bytes.{Text, isEmpty}
-use Rattle.rules.proofs.cell_empty.Statement.{statement}
-use Rattle.rules.proofs.cell_empty.Tie as tie
+use Rattle.conditions.proofs.cell_empty.Statement.{statement}
+use Rattle.conditions.proofs.cell_empty.Tie as tie
 
 empty : (s : Text) → eqb (length s) 0 ≡ isEmpty s
 unfolding isEmpty
