@@ -439,10 +439,11 @@ pub fn contents_found(
     let n = layout::field_count(rows, k);
     let mut i = 0;
     while i < n {
+        // no second call of `conditions_found` here: from two places it is not put into this loop, at some 80 instructions a line
         if p.count <= i {
-            return conditions_found(bytes, p, k);
+            break;
         }
-        // not by `cell`, which takes all places by value
+        // not by a function of its own, which would take all places by value
         let part = fields::part(bytes, p.starts[i], p.lens[i]);
         let number = field_rule(name, part, layout::row_at(rows, k, i));
         if number != 0 {

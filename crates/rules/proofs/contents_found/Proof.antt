@@ -1,12 +1,13 @@
 use Prim.Native.Nat.{ℕ, _-_, _≤_, _<_, min}
 use mathlib.Core.Path.{_≡_, refl, sym, _∙_}
+use mathlib.Core.Logic.{⊎-elim}
 use mathlib.Core.List.{List, []}
 use native.Mathlib.Omega.{arith}
 use borrow.Author.Needs.{needs}
-use lib.ListN.{length, drop-of-length-le}
+use lib.ListN.{drop-of-length-le}
 use Rattle.dirf.specs.Bytes.{Text}
 use Rattle.dirf.specs.Fields.{fieldOrder}
-use Rattle.dirf.specs.Rules.{orElse, askFields}
+use Rattle.dirf.specs.Rules.{keeps, orElse, askFields}
 use Rattle.layout.specs.Tables.{rowsIn}
 use Rattle.layout.proofs.Laws.{rows-length, count-bound}
 use Rattle.fields.specs.Places.{mostFields, cellAt, cellsAt}
@@ -51,6 +52,21 @@ found-here c =
     field-found (rows l) (a .k) (name l) (cells l) (l .loop .i) (omega (arith, l .before .field-count .ensures))
     (omega (arith, cells-length (a .bytes .now) (a .t2))) (c .field-rule .ensures ∙ rw (c .before .row-at .ensures, p))
 
+-- past the last row, and past the last cell, nothing is found
+abbrev Ended : tie.At-loop Inv-loop μ-loop → Type 0
+Ended l = fieldsFrom (rows l) (start l .args .k) (name l) (cells l) (l .loop .i) ≡ keeps
+
+past-rows : (l : tie.At-loop Inv-loop μ-loop) → l .before .field-count .result ≤ l .loop .i → Ended l
+unfolding askFields
+past-rows l h =
+    let e = rows-length (rows l) (start l .args .k) ∙ sym (l .before .field-count .ensures) in
+    rw (drop-of-length-le (rowsIn (rows l) (start l .args .k)) {i = l .loop .i} (omega (arith, e, h)))
+
+past-cells : (l : tie.At-loop Inv-loop μ-loop) → start l .args .t2 .count ≤ l .loop .i → Ended l
+past-cells l h =
+    fields-end fieldOrder (name l) (rowsIn (rows l) (start l .args .k)) (cells l) (l .loop .i)
+    (omega (arith, h, cells-length (start l .args .bytes .now) (start l .args .t2)))
+
 pub contents-found-spec : {M : Type 1} → statement M
 unfolding orElse askFields findingOf
 contents-found-spec =
@@ -60,12 +76,6 @@ contents-found-spec =
     μ-loop
     (λ c κs. search needs)
     (λ c. (omega arith, refl))
-    (λ c κs. search needs)
-    (λ c.
-    let l = c .before .before .before in
-    let h : length (cells l) ≤ l .loop .i = omega (arith, few l, cells-length (start l .args .bytes .now) (start l .args .t2)) in
-    let e = l .loop .inv .1 ∙ fields-end fieldOrder (name l) (rowsIn (rows l) (start l .args .k)) (cells l) (l .loop .i) h in
-    rw (in-parts, e) (c .conditions-found .ensures))
     (λ c. omega (arith, few (c .before .before)))
     (λ c. omega (arith, few (c .before .before)))
     (λ c. omega (arith, few (c .before .before .before)))
@@ -86,6 +96,5 @@ contents-found-spec =
     (λ c κs. search needs)
     (λ c.
     let l = c .before .before in
-    let e = rows-length (rows l) (start l .args .k) ∙ sym (l .before .field-count .ensures) in
-    let h : length (rowsIn (rows l) (start l .args .k)) ≤ l .loop .i = omega (arith, e) in
-    rw (in-parts, l .loop .inv .1, drop-of-length-le (rowsIn (rows l) (start l .args .k)) h) (c .conditions-found2 .ensures)))
+    let e = ⊎-elim (λ t. past-rows l (t .left)) (λ t. past-cells l (t .1 .taken)) (c .before .loop-test .came) in
+    rw (in-parts, l .loop .inv .1 ∙ e) (c .conditions-found .ensures)))
