@@ -4,9 +4,9 @@ ghost use mathlib.Core.Path.{_≡_};
 ghost use mathlib.Core.List.{[]};
 ghost use lib.ListN.{getD};
 ghost use Rattle.dirf.specs.Bytes.{same, isEmpty};
-ghost use Rattle.dirf.specs.Kinds.{DECPF};
+ghost use Rattle.dirf.specs.Kinds.{DECPF, PROC};
 ghost use Rattle.fields.specs.Places.{cellsAt};
-ghost use Rattle.conditions.specs.Broken.{brokenField, deathUnstated};
+ghost use Rattle.conditions.specs.Broken.{brokenField, deathUnstated, otherDigits, lawyersField};
 
 // Cell i, from 0, of what stands at the places; empty past the last.
 fn cell(bytes: &[u8], p: Places, i: usize) -> &[u8]
@@ -67,12 +67,54 @@ fn decpf_condition(bytes: &[u8], p: Places) -> u32
     13
 }
 
+// A lawyer's number is there, and has not so many digits.
+fn other_digits(number: usize, digits: usize) -> bool
+    ensures { λ r. ⌜ r ≡ otherDigits number digits ⌝ }
+{
+    if number == 0 {
+        return false;
+    }
+    number != digits
+}
+
+// Where the lawyer's kind means so many digits in field 5 and up to so many bytes in 6: the lower one that does not agree, 0 where both do.
+fn lawyers_field(bytes: &[u8], p: Places, digits: usize, most: usize) -> u32
+    ensures { λ r. ⌜ r ≡ lawyersField digits most (cellsAt (now (bytes .entry)) p) ⌝ }
+{
+    let wrong = other_digits(cell(bytes, p, 4).len(), digits);
+    let long = most < cell(bytes, p, 5).len();
+    if wrong {
+        return 5;
+    }
+    if long {
+        return 6;
+    }
+    0
+}
+
+// The lowest field at which a condition of PROC or RRA is broken, 0 where none is.
+fn lawyer_condition(bytes: &[u8], p: Places) -> u32
+    ensures { λ r. ⌜ r ≡ brokenField PROC (cellsAt (now (bytes .entry)) p) ⌝ }
+{
+    if cell_is(bytes, p, 3, b"1") {
+        return lawyers_field(bytes, p, 11, 60);
+    }
+    if cell_is(bytes, p, 3, b"2") {
+        return lawyers_field(bytes, p, 14, 150);
+    }
+    if cell_is(bytes, p, 3, b"") {
+        return lawyers_field(bytes, p, 0, 0);
+    }
+    0
+}
+
 // 19: the lowest field at which a condition of the kind is broken, 0 where none is.
 pub fn broken_field(bytes: &[u8], p: Places, k: u32) -> u32
     ensures { λ r. ⌜ r ≡ brokenField k (cellsAt (now (bytes .entry)) p) ⌝ }
 {
     match k {
         3 => decpf_condition(bytes, p),
+        51 | 55 => lawyer_condition(bytes, p),
         _ => 0,
     }
 }

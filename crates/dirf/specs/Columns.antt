@@ -25,7 +25,7 @@ unfoldable pub columns : {A : Type 0} → List (Rule A) → List Column
 columns [] = []
 columns (r ∷ rs) = columnsOf r ++ columns rs
 
--- 01, "Numbers given, and their order"; 02, A1: "26, after 18 for the same field"
+-- 01, "Numbers given, and their order"; 02, A1: "26, after 18 for the same field"; A2: "19 at field 5, then 6"
 abbrev pub numbersTable : List Column
 numbersTable =
     (1, 0 ∷ []) ∷
@@ -46,14 +46,14 @@ numbersTable =
     (17, itsOwn) ∷
     (18, itsOwn) ∷
     (26, itsOwn) ∷
-    (19, 9 ∷ 10 ∷ 11 ∷ 13 ∷ []) ∷
+    (19, 5 ∷ 6 ∷ 9 ∷ 10 ∷ 11 ∷ 13 ∷ []) ∷
     (21, 1 ∷ []) ∷
     (20, 2 ∷ []) ∷
     (7, 0 ∷ []) ∷
     []
 
 -- 01, "The line writer": "22, no base kind; 11, wrong number of lengths; 23, lengths do not add up to the contents; 13 to 18 by field;
--- 19; 24, output too small", and "the field: as in the table for 13 to 19, else 0"; 02, A1: "Reader and writer both ask it"
+-- 19; 24, output too small", and "the field: as in the table for 13 to 19, else 0"; 02, A1: "Reader and writer both ask it"; A2
 abbrev pub writerTable : List Column
 writerTable =
     (22, 0 ∷ []) ∷
@@ -66,7 +66,7 @@ writerTable =
     (17, itsOwn) ∷
     (18, itsOwn) ∷
     (26, itsOwn) ∷
-    (19, 9 ∷ 10 ∷ 11 ∷ 13 ∷ []) ∷
+    (19, 5 ∷ 6 ∷ 9 ∷ 10 ∷ 11 ∷ 13 ∷ []) ∷
     (24, 0 ∷ []) ∷
     []
 

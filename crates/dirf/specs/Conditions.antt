@@ -2,8 +2,10 @@
 use Prim.Native.Nat.{ℕ}
 use mathlib.Core.Bool.{Bool, _&&_, not}
 use mathlib.Core.List.{List, [], _∷_}
-use Rattle.dirf.specs.Bytes.{Text, bytes, same, isEmpty}
-use Rattle.dirf.specs.Kinds.{DECPF}
+use lib.Dec.{eqb, ltb}
+use lib.ListN.{length}
+use Rattle.dirf.specs.Bytes.{Text, bytes, some, same, isEmpty}
+use Rattle.dirf.specs.Kinds.{DECPF, PROC, RRA}
 use Rattle.dirf.specs.Lines.{field}
 
 -- a condition on the fields of some kinds: the field named, and when it is broken
@@ -11,6 +13,38 @@ pub record Condition : Type 0 where
   pub kinds : List ℕ
   pub field : ℕ
   pub broken : List Text → Bool
+
+-- what the lawyer's kind, field 4, means: so many digits in field 5, where it is filled, and a name of up to so many bytes in field 6
+pub record Lawyer : Type 0 where
+  pub kind : Text
+  pub digits : ℕ
+  pub name : ℕ
+
+-- 02, A2: "1 means a CPF and a name of up to 60"
+abbrev pub person : Lawyer
+person = record { kind = bytes "1"; digits = 11; name = 60 }
+
+-- "2 means a CNPJ and a name of up to 150"
+abbrev pub firm : Lawyer
+firm = record { kind = bytes "2"; digits = 14; name = 150 }
+
+-- "With field 4 empty, fields 5 and 6 must be empty."
+abbrev pub nobody : Lawyer
+nobody = record { kind = []; digits = 0; name = 0 }
+
+unfoldable pub lawyers : List Lawyer
+lawyers = person ∷ firm ∷ nobody ∷ []
+
+-- something holds of what the lawyer's kind in field 4 means
+unfoldable pub ofLawyer : (Lawyer → Bool) → List Text → Bool
+ofLawyer test cs = some (λ l. same (field 4 cs) (l .kind) && test l) lawyers
+
+-- "With 1 or 2 either may be empty"
+unfoldable pub lawyersNumberWrong : List Text → Bool
+lawyersNumberWrong cs = ofLawyer (λ l. not (isEmpty (field 5 cs)) && not (eqb (length (field 5 cs)) (l .digits))) cs
+
+unfoldable pub lawyersNameTooLong : List Text → Bool
+lawyersNameTooLong cs = ofLawyer (λ l. ltb (l .name) (length (field 6 cs))) cs
 
 -- 01, "Fields": "field 8 is S", a declaration of special situation
 unfoldable pub special : List Text → Bool
@@ -31,9 +65,11 @@ deathNotStated cs = special cs && same (field 10 cs) (bytes "1") && not (same (f
 unfoldable pub estateStated : List Text → Bool
 estateStated cs = special cs && not (isEmpty (field 13 cs))
 
--- "Conditions, DECPF only (000 and 004)", the lowest field first
+-- 02, A2: "19 at field 5, then 6" of PROC and RRA; 01: "Conditions, DECPF only", to which A2 adds; the lowest field first
 unfoldable pub conditionOrder : List Condition
 conditionOrder =
+    record { kinds = PROC ∷ RRA ∷ []; field = 5; broken = lawyersNumberWrong } ∷
+    record { kinds = PROC ∷ RRA ∷ []; field = 6; broken = lawyersNameTooLong } ∷
     record { kinds = DECPF ∷ []; field = 9; broken = eventDateMissing } ∷
     record { kinds = DECPF ∷ []; field = 10; broken = eventTypeMissing } ∷
     record { kinds = DECPF ∷ []; field = 11; broken = deathNotStated } ∷
@@ -41,6 +77,10 @@ conditionOrder =
     []
 
 -- to compute with this file: `unfolding conditions-opens`
+unfoldable pub lawyers-opens : Unit {0}
+unfolding lawyers ofLawyer lawyersNumberWrong lawyersNameTooLong
+lawyers-opens = tt
+
 unfoldable pub conditions-opens : Unit {0}
-unfolding special eventDateMissing eventTypeMissing deathNotStated estateStated conditionOrder
+unfolding lawyers-opens special eventDateMissing eventTypeMissing deathNotStated estateStated conditionOrder
 conditions-opens = tt

@@ -1,14 +1,12 @@
 -- 21 and 20: what the look-backs say of the records before.
-use Prim.Native.Nat.{ℕ, suc}
+use Prim.Native.Nat.{ℕ}
 use mathlib.Core.Path.{_≡_, refl, sym, ap, _∙_, subst}
 use mathlib.Core.Bool.{Bool, true, false, _&&_, not, true≢false}
 use mathlib.Core.Logic.{_≢_, _⊎_, inl, inr, ⊎-elim}
-use mathlib.Core.List.{List, [], _∷_, _++_, List·Memᴰ·cases-cons, List·Memᴰ·not-nil, cons≢nil, Memᴰ·append-right}
+use mathlib.Core.List.{List, [], _∷_, _++_, List·Memᴰ·cases-cons, List·Memᴰ·not-nil, Memᴰ·append-right}
 use mathlib.Core.Option.{Option, none, some, Option·some-injective}
-use native.Mathlib.Omega.{arith}
-use lib.Dec.{eqb, ltb}
+use lib.Dec.{eqb}
 use lib.ListN.{length}
-use borrow.Author.Tests.{lt-ltb}
 use Rattle.dirf.specs.Bytes.{if_then_else_, Text, same, less}
 use Rattle.dirf.specs.Lines.{fields}
 use Rattle.dirf.specs.Tree.{Rec}
@@ -16,6 +14,7 @@ use Rattle.dirf.specs.Keys.{keyFields, hasKey, keyOf, keyLess, lastUnder
 use Rattle.dirf.specs.Theorems.Plain.{_∈_, Smaller, SmallerKey, shorter, at-field, same-field}
 use Rattle.dirf.proofs.tests.Bools.{if-cases}
 use Rattle.dirf.proofs.tests.Says.{Says, says-and, says-or, says-not, says-by, denies, eqb-says, same-says, less-says, it, on}
+use Rattle.dirf.proofs.tests.Says.{ltb-says, some-length}
 
 -- under this parent and of this kind
 abbrev pub Under : ℕ → ℕ → Rec → Type 0
@@ -126,8 +125,5 @@ not-after-says k cells before p = go (lastUnder before p k) refl (look before p 
 
 pub has-key-says : (k : ℕ) → Says (hasKey k) (keyFields k ≢ [])
 unfolding hasKey
-has-key-says k = go (keyFields k)
-  where
-    go : (fs : List ℕ) → Says (ltb 0 (length fs)) (fs ≢ [])
-    go [] = (λ e. absurd (true≢false (sym e)), λ h. absurd (h refl))
-    go (f ∷ fs) = (λ e q. cons≢nil q, λ h. lt-ltb 0 (suc (length fs)) (omega arith))
+has-key-says k =
+    says-by (some-length (keyFields k) .0) (some-length (keyFields k) .1) (ltb-says 0 (length (keyFields k)))

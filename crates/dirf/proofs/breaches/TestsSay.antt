@@ -10,13 +10,14 @@ use lib.ListN.{length, length-append}
 use borrow.Author.Tests.{not-true}
 use Rattle.dirf.specs.Bytes.{Text, every, same, endsWith}
 use Rattle.dirf.specs.Limits.{bar, lineLimit, linesLimit}
-use Rattle.dirf.specs.Kinds.{DECPF, FIMDirf, later, values, isLater, standsOnce}
+use Rattle.dirf.specs.Kinds.{DECPF, PROC, RRA, FIMDirf, later, values, isLater, standsOnce}
 use Rattle.dirf.specs.Row.{Row}
 use Rattle.dirf.specs.Edition.{Edition, kindIn, kindOf}
 use Rattle.dirf.specs.Lines.{clean, unclean, fields, field}
 use Rattle.dirf.specs.Fields.{FieldTest, FieldRule, fieldOrder, obligatoryFieldEmpty, byteOfTheWrongKind, wrongSize, zeroInFront}
 use Rattle.dirf.specs.Fields.{noSuchDate, notAValidValue, wrongCheckDigits}
-use Rattle.dirf.specs.Conditions.{Condition, conditionOrder, eventDateMissing, eventTypeMissing, deathNotStated}
+use Rattle.dirf.specs.Conditions.{Condition, Lawyer, person, firm, nobody, lawyers, lawyersNumberWrong, lawyersNameTooLong}
+use Rattle.dirf.specs.Conditions.{conditionOrder, eventDateMissing, eventTypeMissing, deathNotStated}
 use Rattle.dirf.specs.Conditions.{estateStated}
 use Rattle.dirf.specs.Rules.{Rule, gives, fieldByField, conditions}
 use Rattle.dirf.specs.Tree.{Rec}
@@ -27,16 +28,17 @@ use Rattle.dirf.specs.Order.{wrongNumberOfFields, valueRecordRepeated, k
 use Rattle.dirf.specs.Theorems.Plain.{_∈_, Nth, NoLineEnd, SmallerKey}
 use Rattle.dirf.specs.Theorems.Breach.{Stands, FieldIs, Breach, follows, line-65537, long, ends, ends-after-CR, stray, no-bar}
 use Rattle.dirf.specs.Theorems.Breach.{unknown, for-later, misplaced, count, missing, byte, size, zero-in-front, no-date, invalid}
+use Rattle.dirf.specs.Theorems.Breach.{LawyerIs, not-a-cpf, persons-name, not-a-cnpj, firms-name, nobodys-number, nobodys-name}
 use Rattle.dirf.specs.Theorems.Breach.{wrong-digits, no-event-date, no-event-type, no-death, estate, again, not-greater, full}
 use Rattle.dirf.specs.Theorems.Sound.{Sound}
 use Rattle.dirf.specs.Theorems.Answered.{Closed, Given, by-test, by-field, by-condition, TestsSay}
 use Rattle.dirf.proofs.tests.Says.{Says, never, says-and, says-not, says-by, denies, says, eqb-says, ltb-says, isIn-says, same-says}
-use Rattle.dirf.proofs.tests.Says.{ends-says, it, on, alone}
+use Rattle.dirf.proofs.tests.Says.{ends-says, it, on, some-length, alone, either-of, of-either}
 use Rattle.dirf.proofs.tests.Lists.{listed, Each, none, _also_, of-each}
 use Rattle.dirf.proofs.tests.Bools.{and-left, and-right, if-cases}
 use Rattle.dirf.proofs.breaches.CleanLaws.{clean-none, clean-unclean, clean-front, cut-says, stray-says}
 use Rattle.dirf.proofs.breaches.FieldLaws.{says-13, says-14, says-15, says-16, says-17, says-18, says-26}
-use Rattle.dirf.proofs.breaches.ConditionLaws.{date-missing-says, type-missing-says, death-says, estate-says}
+use Rattle.dirf.proofs.breaches.ConditionLaws.{number-says, name-says, date-missing-says, type-missing-says, death-says, estate-says}
 use Rattle.dirf.proofs.breaches.TreeLaws.{stands-says}
 use Rattle.dirf.proofs.breaches.KeysSay.{Under, LastOne, repeated-says, not-after-says, has-key-says}
 
@@ -171,12 +173,24 @@ module _ (h : Here) (named : Named h) where
       also (λ f r s i t. let q = says-26 name r s .0 t in wrong-digits f r s i (q .0) (q .1))
       also none
 
-  -- and each condition
+  -- and each condition; of a lawyer's, each row of the table
+  numbers-mean : Each
+      (λ (l : Lawyer). LawyerIs h (l .kind) → field 5 cells ≢ [] → length (field 5 cells) ≢ l .digits → Breach h 19 5) lawyers
+  unfolding lawyers
+  numbers-mean = not-a-cpf also not-a-cnpj also (λ i e q. nobodys-number i e) also none
+
+  names-mean : Each (λ (l : Lawyer). LawyerIs h (l .kind) → l .name < length (field 6 cells) → Breach h 19 6) lawyers
+  unfolding lawyers
+  names-mean = persons-name also firms-name also (λ i q. nobodys-name i (some-length (field 6 cells) .0 q)) also none
+
   conditions-mean : Each
       (λ (x : Condition). h .contents .kind ∈ x .kinds → x .broken cells ≡ true → Breach h 19 (x .field)) conditionOrder
   unfolding conditionOrder
   conditions-mean =
-      (λ m t. let q = date-missing-says cells .0 t in no-event-date (alone m) (q .0) (q .1))
+      (λ m t. let q = number-says cells .0 t in
+      of-each numbers-mean (q .0) (q .1) (either-of m, q .2 .0) (q .2 .1 .0) (q .2 .1 .1))
+      also (λ m t. let q = name-says cells .0 t in of-each names-mean (q .0) (q .1) (either-of m, q .2 .0) (q .2 .1))
+      also (λ m t. let q = date-missing-says cells .0 t in no-event-date (alone m) (q .0) (q .1))
       also (λ m t. let q = type-missing-says cells .0 t in no-event-type (alone m) (q .0) (q .1))
       also (λ m t. let q = death-says cells .0 t in no-death (alone m) (q .0 .0) (q .0 .1) (q .1))
       also (λ m t. let q = estate-says cells .0 t in estate (alone m) (q .0) (q .1))
@@ -228,13 +242,26 @@ module _ (h : Here) (named : Named h) where
   by-field-rule {n} {r = r} {s = s} test m i t =
       (fieldByField fieldOrder (λ h. h .contents), search listed depth 40, by-field (n, test) r s m refl (i .0) (i .1) t)
 
-  by-condition-rule : (x : Condition) → x ∈ conditionOrder → h .contents .kind ∈ x .kinds → x .broken cells ≡ true
-      → GivenSome 19 (x .field)
+  by-condition-rule : {f : ℕ} (ks : List ℕ) (test : List Text → Bool) → record { kinds = ks; field = f; broken = test } ∈ conditionOrder
+      → h .contents .kind ∈ ks → test cells ≡ true → GivenSome 19 f
   unfolding order
-  by-condition-rule x m e t = (conditions 19 conditionOrder (λ h. h .contents), search listed depth 40, by-condition x refl m refl e t)
+  by-condition-rule ks test m e t =
+      (conditions 19 conditionOrder (λ h. h .contents), search listed depth 40, by-condition _ refl m refl e t)
+
+  by-number : (l : Lawyer) → l ∈ lawyers → LawyerIs h (l .kind) → field 5 cells ≢ [] → length (field 5 cells) ≢ l .digits → GivenSome 19 5
+  unfolding conditionOrder
+  by-number l m i e q =
+      by-condition-rule (PROC ∷ RRA ∷ []) lawyersNumberWrong (search listed) (of-either (i .0))
+      (number-says cells .1 (l, m, (i .1, (e, q))))
+
+  by-name : (l : Lawyer) → l ∈ lawyers → LawyerIs h (l .kind) → l .name < length (field 6 cells) → GivenSome 19 6
+  unfolding conditionOrder
+  by-name l m i q =
+      by-condition-rule (PROC ∷ RRA ∷ []) lawyersNameTooLong (search listed) (of-either (i .0))
+      (name-says cells .1 (l, m, (i .1, q)))
 
   breach-given : {n f : ℕ} → Breach h n f → GivenSome n f
-  unfolding order fieldOrder conditionOrder
+  unfolding order fieldOrder conditionOrder lawyers
   breach-given (follows r rs e q) = by-rule bytesFollowFIMDirf (search listed depth 40) (says-2 h .1 (r, rs, e, q))
   breach-given (line-65537 q) = by-rule tooManyLines (search listed depth 40) (says-3 h .1 q)
   breach-given (long a b e n q) = by-rule lineTooLong (search listed depth 40) (says-4 h .1 (a, b, e, n, q))
@@ -253,14 +280,21 @@ module _ (h : Here) (named : Named h) where
   breach-given (no-date f r s i e d q) = by-field-rule noSuchDate (search listed depth 20) i (says-17 name r s .1 ((e, d), q))
   breach-given (invalid f r s i e q) = by-field-rule notAValidValue (search listed depth 20) i (says-18 name r s .1 (e, q))
   breach-given (wrong-digits f r s i e q) = by-field-rule wrongCheckDigits (search listed depth 20) i (says-26 name r s .1 (e, q))
+  breach-given (not-a-cpf i e q) = by-number person (search listed) i e q
+  breach-given (persons-name i q) = by-name person (search listed) i q
+  breach-given (not-a-cnpj i e q) = by-number firm (search listed) i e q
+  breach-given (firms-name i q) = by-name firm (search listed) i q
+  breach-given (nobodys-number i e) =
+      by-number nobody (search listed) i e (λ z. omega (arith, some-length (field 5 cells) .1 e, z))
+  breach-given (nobodys-name i e) = by-name nobody (search listed) i (some-length (field 6 cells) .1 e)
   breach-given (no-event-date e s q) =
-      by-condition-rule record { kinds = DECPF ∷ []; field = 9; broken = eventDateMissing } (search listed) (List·Memᴰ·head e) (date-missing-says cells .1 (s, q))
+      by-condition-rule (DECPF ∷ []) eventDateMissing (search listed) (List·Memᴰ·head e) (date-missing-says cells .1 (s, q))
   breach-given (no-event-type e s q) =
-      by-condition-rule record { kinds = DECPF ∷ []; field = 10; broken = eventTypeMissing } (search listed) (List·Memᴰ·head e) (type-missing-says cells .1 (s, q))
+      by-condition-rule (DECPF ∷ []) eventTypeMissing (search listed) (List·Memᴰ·head e) (type-missing-says cells .1 (s, q))
   breach-given (no-death e s t q) =
-      by-condition-rule record { kinds = DECPF ∷ []; field = 11; broken = deathNotStated } (search listed) (List·Memᴰ·head e) (death-says cells .1 ((s, t), q))
+      by-condition-rule (DECPF ∷ []) deathNotStated (search listed) (List·Memᴰ·head e) (death-says cells .1 ((s, t), q))
   breach-given (estate e s q) =
-      by-condition-rule record { kinds = DECPF ∷ []; field = 13; broken = estateStated } (search listed) (List·Memᴰ·head e) (estate-says cells .1 (s, q))
+      by-condition-rule (DECPF ∷ []) estateStated (search listed depth 20) (List·Memᴰ·head e) (estate-says cells .1 (s, q))
   breach-given (again v r m u) = by-rule valueRecordRepeated (search listed depth 40) (says-21 h .1 (v, (r, m, (u .1, u .0))))
   breach-given (not-greater q since r earlier e u n l) =
       let last : LastOne (h .before) (h .parent) (h .contents .kind) r =

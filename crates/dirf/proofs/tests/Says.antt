@@ -2,11 +2,12 @@
 use Prim.Native.Nat.{ℕ, _≤_, _<_}
 use mathlib.Core.Path.{_≡_, refl, sym, ap, _∙_, subst}
 use mathlib.Core.Bool.{Bool, true, false, _&&_, _||_, not, true≢false}
-use mathlib.Core.Logic.{_↔_, _⊎_, inl, inr, ⊎-elim}
+use mathlib.Core.Logic.{_↔_, _⊎_, _≢_, inl, inr, ⊎-elim}
 use mathlib.Core.List.{List, [], _∷_, _++_, List·Memᴰ·head, List·Memᴰ·tail, List·Memᴰ·cases-cons, List·Memᴰ·not-nil, Memᴰ·cast, nil≢cons}
 use mathlib.Core.List.{cons≢nil, head-eq-of-cons-eq, tail-eq-of-cons-eq}
 use native.Mathlib.Omega.{arith}
 use lib.Dec.{eqb, ltb, leb}
+use lib.ListN.{length}
 use borrow.Author.Tests.{eqb-true, eq-eqb, leb-true, le-leb, ltb-true, ltb-false, lt-ltb}
 use Rattle.dirf.specs.Bytes.{if_then_else_, Text, every, some, isIn, same, less, isDigit, isEmpty, beginsWith, endsWith}
 use Rattle.dirf.proofs.tests.Bools.{by-answer}
@@ -66,6 +67,11 @@ ltb-says a b = (ltb-true a b, lt-ltb a b)
 pub below-or : {P : Type 0} (n k : ℕ) → (k < n → P) → (n ≤ k → P) → P
 below-or n k under past = by-answer (ltb k n) (λ e. under (ltb-true k n e)) (λ e. past (ltb-false k n e))
 
+-- a list of some length has something in it
+pub some-length : {A : Type 0} (xs : List A) → (0 < length xs) ↔ (xs ≢ [])
+some-length [] = (λ h. omega (arith, h), λ n. absurd (n refl))
+some-length (x ∷ xs) = (λ h. cons≢nil, λ n. omega arith)
+
 pub it : {A : Type 0} {x : A} {xs : List A} → x ∈ (x ∷ xs)
 it = List·Memᴰ·head refl
 
@@ -74,6 +80,13 @@ on m = List·Memᴰ·tail m
 
 pub alone : {A : Type 0} {x y : A} → x ∈ (y ∷ []) → x ≡ y
 alone m = ⊎-elim (λ e. e) (λ m. absurd (List·Memᴰ·not-nil m)) (List·Memᴰ·cases-cons m)
+
+module _ {A : Type 0} {x y z : A} where
+  pub either-of : x ∈ (y ∷ z ∷ []) → (x ≡ y) ⊎ (x ≡ z)
+  either-of m = ⊎-elim inl (λ m. inr (alone m)) (List·Memᴰ·cases-cons m)
+
+  pub of-either : (x ≡ y) ⊎ (x ≡ z) → x ∈ (y ∷ z ∷ [])
+  of-either = ⊎-elim List·Memᴰ·head (λ e. List·Memᴰ·tail (List·Memᴰ·head e))
 
 module _ {A : Type 0} {P : A → Type 0} (test : A → Bool) (says : (x : A) → Says (test x) (P x)) where
   pub some-says : (xs : List A) → Says (some test xs) ((x : A) × (x ∈ xs) × P x)
@@ -101,8 +114,7 @@ pub one-says : (k a : ℕ) → Says (isIn k (a ∷ [])) (k ≡ a)
 one-says k a = says-by alone List·Memᴰ·head (isIn-says k (a ∷ []))
 
 pub two-says : (k a b : ℕ) → Says (isIn k (a ∷ b ∷ [])) ((k ≡ a) ⊎ (k ≡ b))
-unfolding isIn some
-two-says k a b = says-or (eqb k a) (isIn k (b ∷ [])) (eqb-says k a) (one-says k b)
+two-says k a b = says-by either-of of-either (isIn-says k (a ∷ b ∷ []))
 
 pub digit-says : (b : ℕ) → Says (isDigit b) ((48 ≤ b) × (b ≤ 57))
 unfolding isDigit

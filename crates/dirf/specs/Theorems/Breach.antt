@@ -7,7 +7,7 @@ use mathlib.Core.List.{List, [], _∷_, _++_}
 use mathlib.Core.Option.{Option, none, some}
 use lib.ListN.{length}
 use Rattle.dirf.specs.Bytes.{Text, bytes, lookup}
-use Rattle.dirf.specs.Kinds.{Dirf, RESPO, DECPF, DECPJ, IDREC, FIMDirf, later, values}
+use Rattle.dirf.specs.Kinds.{Dirf, RESPO, DECPF, DECPJ, IDREC, PROC, RRA, FIMDirf, later, values}
 use Rattle.dirf.specs.Row.{Row, D, obligatory}
 use Rattle.dirf.specs.Edition.{Edition}
 use Rattle.dirf.specs.Lines.{fields, field}
@@ -55,6 +55,10 @@ Stands e before k = StandsAfter (length before) e before k
 abbrev pub FieldIs : Here → ℕ → Row → Text → Type 0
 FieldIs h f r s = Nth (h .contents .rows) f r × Nth (h .contents .cells) f s
 
+-- a PROC or RRA whose field 4, the lawyer's kind, is this
+abbrev pub LawyerIs : Here → Text → Type 0
+LawyerIs h kind = ((h .contents .kind ≡ PROC) ⊎ (h .contents .kind ≡ RRA)) × (field 4 (h .contents .cells) ≡ kind)
+
 -- of the same kind under the same parent
 abbrev pub Sibling : Here → Rec → Type 0
 Sibling h r = (r .kind ≡ h .contents .kind) × (r .parent ≡ h .parent)
@@ -96,7 +100,16 @@ pub data Breach (h : Here) : ℕ → ℕ → Type 0 where
   invalid : (f : ℕ) (r : Row) (s : Text) → FieldIs h f r s → s ≢ [] → (Valid (h .contents .name) (r .holds) s → ⊥) → Breach h 18 f
   -- 26 "right check digits by the public modulo 11 rule"
   wrong-digits : (f : ℕ) (r : Row) (s : Text) → FieldIs h f r s → s ≢ [] → (DigitsHeld (r .holds) s → ⊥) → Breach h 26 f
-  -- 19 "a condition is broken": DECPF, "field 8 is S: 9 and 10 are filled"
+  -- 19 "a condition is broken": PROC and RRA, "1 means a CPF and a name of up to 60"
+  not-a-cpf : LawyerIs h (bytes "1") → field 5 (h .contents .cells) ≢ [] → length (field 5 (h .contents .cells)) ≢ 11 → Breach h 19 5
+  persons-name : LawyerIs h (bytes "1") → 60 < length (field 6 (h .contents .cells)) → Breach h 19 6
+  -- "2 means a CNPJ and a name of up to 150"
+  not-a-cnpj : LawyerIs h (bytes "2") → field 5 (h .contents .cells) ≢ [] → length (field 5 (h .contents .cells)) ≢ 14 → Breach h 19 5
+  firms-name : LawyerIs h (bytes "2") → 150 < length (field 6 (h .contents .cells)) → Breach h 19 6
+  -- "With field 4 empty, fields 5 and 6 must be empty"
+  nobodys-number : LawyerIs h [] → field 5 (h .contents .cells) ≢ [] → Breach h 19 5
+  nobodys-name : LawyerIs h [] → field 6 (h .contents .cells) ≢ [] → Breach h 19 6
+  -- DECPF, "field 8 is S: 9 and 10 are filled"
   no-event-date : h .contents .kind ≡ DECPF → field 8 (h .contents .cells) ≡ bytes "S" → field 9 (h .contents .cells) ≡ [] → Breach h 19 9
   no-event-type : h .contents .kind ≡ DECPF → field 8 (h .contents .cells) ≡ bytes "S" → field 10 (h .contents .cells) ≡ [] → Breach h 19 10
   -- "field 8 is S and 10 is 1: 11 is S"
