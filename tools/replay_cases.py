@@ -83,6 +83,9 @@ LINE = {
 LINE.update({name: name + "|100" + "|" * 13 for name in MONTHLY})
 LINE.update({name: name + "|100|" for name in ANNUAL})
 
+# what has a lawyer, in fields 4 to 6
+WITH_LAWYER = ("PROC", "RRA")
+
 RUN = []
 WANTED = []
 
@@ -175,6 +178,18 @@ def with_cell(name, field, cell, records=()):
 
 def with_field(name, field, cell, records=()):
     return "|".join(with_cell(name, field, cell, records)) + "|"
+
+
+def with_cells(name, cells):
+    """The fields of a record with these put in, by their numbers."""
+    return [cells.get(field, cell) for field, cell in enumerate(cells_of(name), 1)]
+
+
+def lawyer(name, field, cell):
+    """What field 4 of PROC and RRA says where this stands in field 5 or 6: 2 for a CNPJ and for a name, else 1."""
+    if name not in WITH_LAWYER or field not in (5, 6):
+        return {}
+    return {4: "2" if field == 6 or len(cell) == makers.CNPJ_SIZE else "1"}
 
 
 # ---- files
@@ -471,6 +486,8 @@ def faults():
     yield 18, pj("  IDREC\n    " + with_field("BPFDEC", 5, "X")), 5, 5
     yield 26, pj("  IDREC\n    " + with_field("BPFDEC", 2, SWAPPED)), 5, 2
     yield 19, "Dirf\nRESPO\n" + with_field("DECPF", 8, "S"), 3, 9
+    yield 19, pj("  " + with_field("PROC", 5, CPF)), 4, 5
+    yield 19, pj("  " + with_field("RRA", 6, "RUI BARBOSA")), 4, 6
     yield 21, pj(short + "      RTRT\n      RTRT"), 7, 1
     yield 20, pj("  IDREC\n  IDREC"), 5, 2
 
@@ -686,7 +703,7 @@ def field_rules():
                 if row in known and breach in given:
                     continue
                 given.add(breach)
-                write(KIND[name], with_cell(name, field, cell), breach, field if breach else 0)
+                write(KIND[name], with_cells(name, {field: cell, **lawyer(name, field, cell)}), breach, field if breach else 0)
             known.add(row)
 
 
@@ -977,6 +994,15 @@ def standing(name, text):
     return lead + text, lead.count("\n") + 1
 
 
+def judged(name, cells, breach, field):
+    """A line of a record with these fields, by the check and by the writer of either edition."""
+    line = with_cells(name, cells)
+    tree, at = standing(name, "|".join(line) + "|")
+    for edition, first in FIRST.items():
+        check(with_first(first, tree), breach or 1, at if breach else at + 1, field)
+        write(KIND[name], line, breach, field, edition=edition)
+
+
 def digit_fields():
     """Every field that can be 26, through the check and the writer of either edition: right, wrong and, where it may be, empty."""
     fields = [(name, field, row) for name, rows in ROWS.items() for field, row in enumerate(rows, 1) if row.holds in IDENTITY]
@@ -986,22 +1012,7 @@ def digit_fields():
         wrong = [digits for size in IDENTITY[row.holds] for digits in neighbours(ones(size))]
         for cell in right + wrong:
             breach = 26 if cell in wrong else 0
-            cells = with_cells(name, {field: cell, **lawyer(row, cell)})
-            tree, line = standing(name, "|".join(cells) + "|")
-            for first in FIRST.values():
-                check(with_first(first, tree), breach or 1, line if breach else line + 1, field if breach else 0)
-            for edition in FIRST:
-                write(KIND[name], cells, breach, field if breach else 0, edition=edition)
-
-
-def with_cells(name, cells):
-    """The fields of a record with these put in, by their numbers."""
-    return [cells.get(field, cell) for field, cell in enumerate(cells_of(name), 1)]
-
-
-def lawyer(row, cell):
-    """Field 4 of PROC and RRA, which says whether field 5 is a person's or a company's."""
-    return {4: "2" if len(cell) == makers.CNPJ_SIZE else "1"} if row.holds == "cpfOrCnpj" else {}
+            judged(name, {field: cell, **lawyer(name, field, cell)}, breach, field if breach else 0)
 
 
 # two faults of one record: what stands in which fields, and the number and the field that are named
@@ -1050,6 +1061,65 @@ def digit_pairs():
     # which is the CPF's rule and which the CNPJ's, the length says
     for digits in ("11144477765", "11144477705"):
         check(pj("  " + "|".join(with_cells("PROC", {4: "1", 5: digits})) + "|"), 26, 4, 5)
+
+
+# ---- the lawyer of PROC and RRA: document 02, A2
+
+
+# by what field 4 says: what may stand in field 5, and the most bytes of field 6
+LAWYERS = {"1": (("", CPF), 60), "2": (("", CNPJ), 150), "": (("",), 0)}
+
+
+def lawyers():
+    """Each kind with each number, and with names at the edges; through the check and the writer of either edition."""
+    for name in WITH_LAWYER:
+        for kind, (numbers, most) in LAWYERS.items():
+            for digits in ("", CPF, CNPJ):
+                for size in (0, 1, 60, 61, 150):
+                    field = 5 if digits not in numbers else 6 if size > most else 0
+                    judged(name, {4: kind, 5: digits, 6: "N" * size}, 19 if field else 0, field)
+            # other lengths are 15, whatever the kind says
+            judged(name, {4: kind, 6: "N" * 151}, 15, 6)
+            for count in (1, 10, 12, 13, 15):
+                judged(name, {4: kind, 5: "1" * count}, 15, 5)
+
+
+# 19 and another fault of one line: what stands in which fields, and the number and the field that are named
+LAWYER_PAIRS = [
+    # both fields, and 19 in one with the other right
+    ({4: "1", 5: CNPJ, 6: "N" * 61}, 19, 5), ({5: CPF, 6: "N"}, 19, 5), ({4: "1", 5: CPF, 6: "N" * 61}, 19, 6),
+    # 15 of the other field, or of the same
+    ({4: "1", 5: CNPJ, 6: "N" * 151}, 15, 6), ({4: "1", 5: "1" * 12, 6: "N" * 61}, 15, 5), ({5: "1" * 13, 6: "N"}, 15, 5),
+    # 26 of field 5
+    ({5: SWAPPED}, 26, 5), ({4: "2", 5: SWAPPED}, 26, 5), ({4: "1", 5: "11222333000118", 6: "N" * 61}, 26, 5), ({5: SWAPPED, 6: "N"}, 26, 5),
+    # 14, 16 and 18 in field 7, in 5 and in 4
+    ({4: "1", 5: CNPJ, 7: "0"}, 16, 7), ({5: CPF, 7: "1,00"}, 14, 7), ({4: "2", 5: CPF, 7: "1" * 14}, 15, 7),
+    ({4: "1", 5: "111.444.777-35", 6: "N" * 61}, 14, 5), ({4: "3", 5: CNPJ, 6: "N" * 61}, 18, 4), ({4: "x", 5: CPF}, 14, 4),
+    ({2: "9", 5: CPF}, 18, 2), ({2: "", 6: "N"}, 13, 2),
+]
+
+
+def lawyer_pairs():
+    """19 of a lawyer against the others: by field, and in a line before 20 and 7, behind 11 and 12."""
+    for name in WITH_LAWYER:
+        for cells, breach, field in LAWYER_PAIRS:
+            judged(name, cells, breach, field)
+            tree, at = standing(name, "|".join(with_cells(name, cells)) + "|")
+            check(tree, breach, at, field, room=at - 1)
+            write(KIND[name], with_cells(name, cells), breach, field, room=0)
+        # 20: the same key once more
+        for digits, breach, field in ((CNPJ, 19, 5), (CPF, 20, 2)):
+            check(pj(f"  {name}\n  " + "|".join(with_cells(name, {4: "1", 5: digits})) + "|"), breach, 5, field)
+        # 11: the fields are not looked at
+        check(pj(f"  ={name}|1|1||{CPF}||"), 11, 4)
+        # nothing below such a line is read, and the next one is not asked
+        tree = pj("  " + with_field(name, 5, CPF) + "\n    IDREC\n      BPF" + name + "\n        RTRT\nFIMDirf")
+        check(tree, 19, 4, 5)
+        check(tree.replace(f"||{CPF}|", f"|1|{CPF}|"), 0, 8)
+    # 12 of a PROC under DECPF, and RRA under both declarants
+    check(pf("  " + with_field("PROC", 5, CPF)), 12, 4, 1)
+    for kind, digits, field in (("1", CPF, 0), ("2", CNPJ, 0), ("1", CNPJ, 5), ("2", CPF, 5), ("", CPF, 5), ("", CNPJ, 5)):
+        check(pf("  " + "|".join(with_cells("RRA", {4: kind, 5: digits})) + "|"), 19 if field else 1, 4 if field else 5, field)
 
 
 # ---- the two editions: document 02, A4, and of the older one what document 000 prints
@@ -1214,8 +1284,8 @@ def limits():
 
 def main(folder=os.path.join(ROOT, "crates", "replay")):
     for group in (marked, line_ends, identifiers, whole_files, places, below, orders, rooms, pairs, field_rules, identifier_rules,
-    conditions, writer_order, field_places, numbers, wrong_checkers, tour, check_digits, digit_fields, digit_pairs, first_lines, picked,
-    later_lines, first_line_ends, older_files, gone, kinds_written, first_lines_written, limits):
+    conditions, writer_order, field_places, numbers, wrong_checkers, tour, check_digits, digit_fields, digit_pairs, lawyers, lawyer_pairs,
+    first_lines, picked, later_lines, first_line_ends, older_files, gone, kinds_written, first_lines_written, limits):
         group()
     with open(os.path.join(folder, "stdin"), "wb") as out:
         out.write(b"".join(RUN))
