@@ -2,7 +2,9 @@
    amounts and month counts, and the line writer, as document 01 sets them for
    2025 and change A4 of document 02 for the older edition. In both, the check
    and the line writer ask the check digits of every filled CPF and CNPJ, as
-   change A1 has it: 26, after 18 of the same field.
+   change A1 has it: 26, after 18 of the same field; and they ask of PROC and RRA
+   that the lawyer's number and name follow the lawyer's kind, as change A2 has
+   it: 19, at field 5, then 6.
    Every function takes every input; a pointer may be NULL where its length or
    room is 0. An output never overlaps an input. An edition is one of the two. */
 #ifndef PLAIN_H

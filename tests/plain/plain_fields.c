@@ -3,6 +3,8 @@
 
 #include "plain_inner.h"
 
+enum { PERSON_NAME = 60, OFFICE_NAME = 150 };   /* the longest names of a lawyer */
+
 static int digits_only(part p)
 {
     for (size_t i = 0; i < p.len; i++)
@@ -106,8 +108,8 @@ static uint32_t field_fault(const row *r, part p)
     return 0;
 }
 
-/* DECPF alone has conditions; the lowest field is named. */
-static uint32_t condition_broken(const part *fields)
+/* DECPF: the lowest field is named. Fields 8 and 11 are one byte each by now. */
+static uint32_t decpf_broken(const part *fields)
 {
     part f8 = fields[7], f9 = fields[8], f10 = fields[9];
     part f11 = fields[10], f13 = fields[12];
@@ -122,6 +124,29 @@ static uint32_t condition_broken(const part *fields)
     return f13.len != 0 ? 13 : 0;
 }
 
+/* PROC and RRA, by change A2: field 4, by now empty, 1 or 2, tells what may stand in 5 and 6. */
+static uint32_t lawyer_broken(const part *fields)
+{
+    part f4 = fields[3], f5 = fields[4], f6 = fields[5];
+    size_t digits = 0, name = 0;
+    if (f4.len != 0) {
+        int person = f4.bytes[0] == '1';
+        digits = person ? CPF_DIGITS : CNPJ_DIGITS;
+        name = person ? PERSON_NAME : OFFICE_NAME;
+    }
+    if (f5.len != 0 && f5.len != digits)
+        return 5;
+    return f6.len > name ? 6 : 0;
+}
+
+/* 0, or the field that 19 names. No other record has conditions. */
+static uint32_t condition_broken(uint32_t kind, const part *fields)
+{
+    if (kind == DECPF)
+        return decpf_broken(fields);
+    return kind == PROC || kind == RRA ? lawyer_broken(fields) : 0;
+}
+
 fault plain_fields_fault(plain_edition edition, uint32_t kind, const part *fields)
 {
     for (unsigned f = 1; f <= plain_records[kind].fields; f++) {
@@ -130,7 +155,6 @@ fault plain_fields_fault(plain_edition edition, uint32_t kind, const part *field
         if (number != 0)
             return (fault){number, f};
     }
-    /* Fields 8 and 11 are one byte each by now. */
-    uint32_t broken = kind == DECPF ? condition_broken(fields) : 0;
+    uint32_t broken = condition_broken(kind, fields);
     return (fault){broken ? 19 : 0, broken};
 }

@@ -195,6 +195,19 @@ static uint32_t condition(const uint8_t *line, size_t len)
     return lowest;
 }
 
+/* A2 the other way about: which of none, 1 and 2 in field 4 lets field 5 stand as it is, and then field 6. */
+static uint32_t lawyer_condition(const uint8_t *line, size_t len)
+{
+    size_t s, l4, l5, l6;
+    plain_field(line, len, 6, &s, &l6);
+    plain_field(line, len, 5, &s, &l5);
+    plain_field(line, len, 4, &s, &l4);
+    int lawyer = l4 == 0 ? '-' : line[s];
+    const char *five = l5 == 0 ? "-12" : l5 < 14 ? "1" : "2";
+    const char *six = l6 == 0 ? "-12" : l6 < 61 ? "12" : "2";
+    return strchr(five, lawyer) == NULL ? 5 : strchr(six, lawyer) == NULL ? 6 : 0;
+}
+
 typedef struct { uint32_t number, field; } breach;
 
 static breach fields_breach(plain_edition edition, unsigned kind, const uint8_t *line, size_t len)
@@ -213,6 +226,8 @@ static breach fields_breach(plain_edition edition, unsigned kind, const uint8_t 
     }
     if (is(kind, "DECPF") && condition(line, len))
         return (breach){19, condition(line, len)};
+    if ((is(kind, "PROC") || is(kind, "RRA")) && lawyer_condition(line, len))
+        return (breach){19, lawyer_condition(line, len)};
     return (breach){0, 0};
 }
 

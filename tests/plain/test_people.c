@@ -1,4 +1,4 @@
-/* Right CPFs, CNPJs and declarants' flags, so that a rule about them finds the test data ready. */
+/* Right CPFs, CNPJs, lawyers and declarants' flags, so that a rule about them finds the test data ready. */
 #include <stdio.h>
 #include <string.h>
 
@@ -78,7 +78,29 @@ void people_declarant(unsigned kind, int scp, const char *rest, char *out)
                 people_flag(kind, 10, scp), rest ? rest : "N|N|N||");
 }
 
+void people_lawyer(unsigned lawyer, unsigned f, uint32_t serial, char *out)
+{
+    static const char *const kinds[] = {"", "1", "2"}, *const names[] = {"", "A", "B"};
+    out[0] = 0;
+    if (f != 5)
+        strcpy(out, f == 4 ? kinds[lawyer] : names[lawyer]);
+    else if (lawyer == PEOPLE_PERSON)
+        people_cpf(serial, out);
+    else if (lawyer == PEOPLE_OFFICE)
+        people_cnpj(serial, out);
+}
+
+unsigned people_longest(unsigned lawyer)
+{
+    return lawyer == PEOPLE_OFFICE ? 150 : lawyer == PEOPLE_PERSON ? 60 : 0;
+}
+
 /* ---- the look for wrong ones ---- */
+
+int people_is_lawyer(const char *name, unsigned f)
+{
+    return f >= 4 && f <= 6 && (strcmp(name, "PROC") == 0 || strcmp(name, "RRA") == 0);
+}
 
 int people_is_id(const char *name, unsigned f)
 {
@@ -122,6 +144,30 @@ static unsigned fields_taken(plain_answer a, uint32_t n)
     return a.number == 11;
 }
 
+/* How many fields of line n the answer takes to keep their conditions: 19 comes after all of 13 to 18 and 26. */
+static unsigned conditions_taken(plain_answer a, uint32_t n)
+{
+    if (n == a.line && a.number == 19)
+        return a.field - 1;
+    return n < a.line || a.number == 0 || a.number == 7 || a.number == 20 || a.number == 21 ? 99 : 0;
+}
+
+/* A2 cell by cell, of PROC and RRA alone: 0, or the first of 5 and 6 that does not go with field 4. */
+static uint32_t lawyer_wrong(const uint8_t *line, size_t len)
+{
+    size_t start, kind, number, name;
+    if (len < 5 || (memcmp(line, "PROC|", 5) != 0 && memcmp(line, "RRA|", 4) != 0))
+        return 0;
+    plain_field(line, len, 5, &start, &number);
+    plain_field(line, len, 6, &start, &name);
+    plain_field(line, len, 4, &start, &kind);
+    if (kind == 0)
+        return number > 0 ? 5 : name > 0 ? 6 : 0;
+    if (line[start] == '1')
+        return number == 14 ? 5 : name >= 61 ? 6 : 0;
+    return number == 11 ? 5 : name >= 151 ? 6 : 0;
+}
+
 typedef struct { char scp, health; int scp_seen; } flags;
 
 /* 0, or the first wrong field of a line whose first fields are taken for right. */
@@ -160,6 +206,9 @@ people_spot people_wrong(const uint8_t *file, size_t len, plain_answer a)
             end++;
         uint32_t field = line_wrong(file + start, end - start, fields_taken(a, n), &seen);
         if (field != 0)
+            return (people_spot){n, field};
+        field = lawyer_wrong(file + start, end - start);
+        if (field != 0 && field <= conditions_taken(a, n))
             return (people_spot){n, field};
         start = end + 2;
     }

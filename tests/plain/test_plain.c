@@ -1,6 +1,6 @@
 /* The tests: the marked examples, every number alone, the order of the numbers,
-   the tree, every field row, check digits, cuts, rooms, random bytes and changed
-   files, all of it in both editions; then the editions beside each other. */
+   the tree, every field row, check digits, lawyers, cuts, rooms, random bytes and
+   changed files, all of it in both editions; then the editions beside each other. */
 #define _DEFAULT_SOURCE                 /* for mmap, which C itself does not have */
 #include <stdio.h>
 #include <stdlib.h>
@@ -201,11 +201,11 @@ static plain_answer run(const uint8_t *bytes, size_t len, size_t room)
     return a;
 }
 
-/* All that a test takes for right is so in its numbers and flags too, else another rule would speak first, now or later. */
+/* All that a test takes for right is so in its numbers, lawyers and flags too, else another rule would speak first, now or later. */
 static void is_right(const char *what, const text *t, plain_answer wanted)
 {
     people_spot spot = people_wrong(t->bytes, t->len, wanted);
-    is_true(spot.line == 0, "check digits and flags", spot.line, spot.field);
+    is_true(spot.line == 0, "check digits, lawyers and flags", spot.line, spot.field);
     if (spot.line != 0 && wrong <= 40)
         printf("   in %s, line and field above\n", what);
 }
@@ -380,13 +380,30 @@ static void test_makers(void)
         }
 }
 
+#define NAME60 "123456789012345678901234567890123456789012345678901234567890"
+#define NAME150 NAME60 NAME60 "123456789012345678901234567890"
 #define PF(health, scp) "DECPF|{cpf 1}|A|N|N|" health "|" scp "|N|||N|||||"
 #define PJ(scp, health) "DECPJ|{cnpj 1}|A|0|{cpf 1}|" scp "|N|N|N|" health "|N|N|N||"
+
+typedef struct { const char *l3, *l4; uint32_t number, line, field; people_spot spot; } spoiled;
+
+static void expect_spot(unsigned i, const spoiled *c)
+{
+    text t = {0};
+    add_line(&t, DIRF_LINE);
+    add_line(&t, RESPO_LINE);
+    add_line(&t, c->l3);
+    add_line(&t, c->l4);
+    add_line(&t, "FIMDirf|");
+    people_spot spot = people_wrong(t.bytes, t.len, (plain_answer){c->number, c->line, c->field, 0});
+    is_true(spot.line == c->spot.line && spot.field == c->spot.field, "spoiled", i, spot.line);
+    drop(&t);
+}
 
 /* The look names the spoiled spot in what an answer takes for right; the checker is not asked, as its rules will grow. */
 static void test_spoiled(void)
 {
-    struct { const char *l3, *l4; uint32_t number, line, field; people_spot spot; } c[] = {
+    const spoiled c[] = {
         {PF("N", "N"), "IDREC|0561|", 0, 5, 0, {0, 0}}, {PJ("N", "N"), "IDREC|0561|", 0, 5, 0, {0, 0}},
         {PF("N", "S"), "SCP|{cnpj 1}|A|", 0, 5, 0, {0, 0}}, {PJ("S", "N"), "SCP|{cnpj 1}|A|", 0, 5, 0, {0, 0}},
         {PF("N", "N"), "SCP|{cnpj 1}|A|", 0, 5, 0, {4, 1}}, {PJ("N", "N"), "SCP|{cnpj 1}|A|", 0, 5, 0, {4, 1}},
@@ -403,17 +420,27 @@ static void test_spoiled(void)
         {"DECPF|{cpf 1}|A|N|N|N|N|N|||N|||11144477736||", "IDREC|0561|", 0, 5, 0, {3, 14}},
         {"DECPF|11144477753|A|N|N|N|N|N|||N|||||", "IDREC|0561|", 0, 5, 0, {3, 2}},
     };
-    for (unsigned i = 0; i < sizeof c / sizeof *c; i++) {
-        text t = {0};
-        add_line(&t, DIRF_LINE);
-        add_line(&t, RESPO_LINE);
-        add_line(&t, c[i].l3);
-        add_line(&t, c[i].l4);
-        add_line(&t, "FIMDirf|");
-        people_spot spot = people_wrong(t.bytes, t.len, (plain_answer){c[i].number, c[i].line, c[i].field, 0});
-        is_true(spot.line == c[i].spot.line && spot.field == c[i].spot.field, "spoiled", i, spot.line);
-        drop(&t);
-    }
+    for (unsigned i = 0; i < sizeof c / sizeof *c; i++)
+        expect_spot(i, c + i);
+}
+
+/* The same of a lawyer whose number or name does not go with the kind. */
+static void test_spoiled_lawyers(void)
+{
+    const spoiled c[] = {
+        {PJ("N", "N"), "PROC|1|7|||||", 0, 5, 0, {0, 0}}, {PJ("N", "N"), "PROC|1|7||{cpf 7}|A||", 0, 5, 0, {4, 5}},
+        {PJ("N", "N"), "PROC|1|7|1|{cnpj 7}|||", 0, 5, 0, {4, 5}}, {PF("N", "N"), "RRA|1||2|{cpf 7}|||", 0, 5, 0, {4, 5}},
+        {PJ("N", "N"), "PROC|1|7|||A||", 0, 5, 0, {4, 6}}, {PF("N", "N"), "RRA|1||||A||", 0, 5, 0, {4, 6}},
+        {PJ("N", "N"), "PROC|1|7|1||" NAME60 "1||", 0, 5, 0, {4, 6}}, {PF("N", "N"), "RRA|1||1||" NAME60 "1||", 0, 5, 0, {4, 6}},
+        {PJ("N", "N"), "PROC|1|7|1||" NAME60 "||", 0, 5, 0, {0, 0}}, {PF("N", "N"), "RRA|1||2||" NAME150 "||", 0, 5, 0, {0, 0}},
+        {PF("N", "N"), "RRA|1||2|{cpf 7}|||", 19, 4, 5, {0, 0}}, {PF("N", "N"), "RRA|1||2|{cpf 7}|||", 19, 4, 6, {4, 5}},
+        {PF("N", "N"), "RRA|1||||A||", 19, 4, 6, {0, 0}}, {PF("N", "N"), "RRA|1||||A||", 20, 4, 2, {4, 6}},
+        {PF("N", "N"), "RRA|1||2|{cpf 7}|||", 26, 4, 5, {0, 0}}, {PF("N", "N"), "RRA|1||2|{cpf 7}||0|", 16, 4, 7, {0, 0}},
+        {PF("N", "N"), "RRA|1||2|{cpf 7}|||", 7, 4, 0, {4, 5}}, {PF("N", "N"), "RRA|1||2|{cpf 7}|||", 12, 4, 1, {0, 0}},
+        {PF("N", "N"), "RRA|1||2|{cpf 7}|||", 1, 5, 0, {4, 5}}, {PF("N", "N"), "RRA|1||2|{cpf 7}||", 11, 4, 0, {0, 0}},
+    };
+    for (unsigned i = 0; i < sizeof c / sizeof *c; i++)
+        expect_spot(i, c + i);
 }
 
 /* ---- M1 to M12 ---- */
@@ -1009,6 +1036,23 @@ static const char *path_to(unsigned kind, unsigned *declarant)
     return NULL;
 }
 
+/* The lawyer beside whom a content of field 4, 5 or 6 of PROC and RRA is right, if any is. */
+static unsigned lawyer_beside(unsigned f, const char *value)
+{
+    if (f == 4)
+        return value[0] == 0 ? PEOPLE_NONE : strcmp(value, "2") == 0 ? PEOPLE_OFFICE : PEOPLE_PERSON;
+    return strlen(value) > (f == 5 ? 11 : 60) ? PEOPLE_OFFICE : PEOPLE_PERSON;
+}
+
+/* A good content of field g in a line whose field f is given: the fields of a lawyer go by each other. */
+static void good_beside(unsigned kind, unsigned f, const char *value, unsigned g, char *out)
+{
+    const char *name = plain_name(kind);
+    good_field(kind, g, 2, out);
+    if (people_is_lawyer(name, f) && people_is_lawyer(name, g))
+        people_lawyer(lawyer_beside(f, value), g, 2, out);
+}
+
 /* A line of the kind written, all fields good but field f; the line itself goes into line. */
 static void test_field_written(unsigned kind, unsigned f, const char *value, uint32_t number, char *line)
 {
@@ -1016,7 +1060,7 @@ static void test_field_written(unsigned kind, unsigned f, const char *value, uin
     uint8_t out[2048];
     line[0] = 0;
     for (unsigned g = 1; g <= plain_fields(edition, kind); g++) {
-        good_field(kind, g, 2, field);
+        good_beside(kind, f, value, g, field);
         strcat(strcat(line, g == f ? value : field), "|");
     }
     plain_written w = write_fields(kind, line, out, sizeof out);
@@ -1637,9 +1681,9 @@ static void test_26_after_fields(void)
         {"DECPJ|" BAD_CNPJ "|A|5|" BAD_CPF "|N|N|N|N|N|N|N|N||", 26, 2},
         {"DECPJ|11222333000181|A|0|" BAD_CPF "|N|N|N|N|N|N|N|N||", 26, 5},
         {"PROC||7|1|" BAD_CPF "|||", 13, 2}, {"PROC|X|7|1|" BAD_CPF "|||", 14, 2}, {"PROC|4|7|1|" BAD_CPF "|||", 18, 2},
-        {"PROC|1|123456789012345678901|1|" BAD_CPF "|||", 15, 3}, {"PROC|1||1|" BAD_CNPJ "|||", 13, 3},
+        {"PROC|1|123456789012345678901|1|" BAD_CPF "|||", 15, 3}, {"PROC|1||2|" BAD_CNPJ "|||", 13, 3},
         {"PROC|1|7|3|" BAD_CNPJ "|||", 18, 4}, {"PROC|1|7|X|" BAD_CNPJ "|||", 14, 4}, {"PROC|1|7|11|" BAD_CNPJ "|||", 15, 4},
-        {"RRA||7|1|" BAD_CPF "|||", 13, 2}, {"RRA|3||1|" BAD_CNPJ "|||", 18, 2}, {"RRA|1||X|" BAD_CPF "|||", 14, 4}};
+        {"RRA||7|1|" BAD_CPF "|||", 13, 2}, {"RRA|3||2|" BAD_CNPJ "|||", 18, 2}, {"RRA|1||X|" BAD_CPF "|||", 14, 4}};
     for (unsigned i = 0; i < sizeof c / sizeof *c; i++)
         expect_line_fault(c[i].line, c[i].line, c[i].number, c[i].field);
 }
@@ -1663,8 +1707,8 @@ static void test_26_before_fields(void)
         {"BPFDEC|" BAD_CPF "||||N|", 2}, {"BPFDEC|" BAD_CPF "|A|2024|N|N|", 2}, {"BPFDEC|" BAD_CPF "|A||X|N|", 2},
         {"BPFSCP|" BAD_CPF "|A|X|", 2}, {"BPJSCP|" BAD_CNPJ "|A|12345|", 2}, {"BPFRRA|" BAD_CPF "|A|||X|", 2},
         {"FCI|" BAD_CNPJ "||", 2}, {"BPFFCI|" BAD_CPF "|A|20240230|", 2}, {"BPJPROC|" BAD_CNPJ "||", 2},
-        {"PROC|1|7|1|" BAD_CPF "||01|", 5}, {"PROC|1|7|1|" BAD_CPF "||0X|", 5}, {"PROC|1|7|1|" BAD_CNPJ "||12345678901234|", 5},
-        {"RRA|1||1|" BAD_CNPJ "||0|", 5}};
+        {"PROC|1|7|1|" BAD_CPF "||01|", 5}, {"PROC|1|7|1|" BAD_CPF "||0X|", 5}, {"PROC|1|7|2|" BAD_CNPJ "||12345678901234|", 5},
+        {"RRA|1||2|" BAD_CNPJ "||0|", 5}};
     for (unsigned i = 0; i < sizeof c / sizeof *c; i++)
         expect_line_fault(c[i].line, c[i].line, 26, c[i].field);
     expect_line_fault("19 with right digits", "DECPF|11144477735|A|N|N|N|N|S|||N|||11144477735||", 19, 9);
@@ -1705,17 +1749,19 @@ static void test_26_in_file(void)
     }
 }
 
-/* What passes: the empty optional field, and either number whatever field 4 says of the lawyer. */
+/* What passes: the empty optional field, and the number of the lawyer that field 4 tells of; the other's number is right in its
+   digits all the same, so it is 19 and no 26. */
 static void test_26_passes(void)
 {
     static const char *const fours[] = {"", "1", "2"}, *const fives[] = {"", "11144477735", "11222333000181"};
     for (unsigned i = 0; i < 9; i++) {
+        int ok = i / 3 == 0 || i / 3 == i % 3;
         char line[128];
         sprintf(line, "PROC|1|7|%s|%s|||~FIMDirf|", fours[i % 3], fives[i / 3]);
-        expect_after("lawyer of PROC", DECPJ, line, 0, 5, 0);
+        expect_after("lawyer of PROC", DECPJ, line, ok ? 0 : 19, ok ? 5 : 4, ok ? 0 : 5);
         sprintf(line, "RRA|2|7|%s|%s|||~FIMDirf|", fours[i % 3], fives[i / 3]);
-        expect_after("lawyer of RRA", DECPF, line, 0, 5, 0);
-        expect_after("lawyer of RRA", DECPJ, line, 0, 5, 0);
+        expect_after("lawyer of RRA", DECPF, line, ok ? 0 : 19, ok ? 5 : 4, ok ? 0 : 5);
+        expect_after("lawyer of RRA", DECPJ, line, ok ? 0 : 19, ok ? 5 : 4, ok ? 0 : 5);
     }
     expect_declarant("no inventariante", DECPF, "N|||S|20240101|1||B|", 0, 4, 0);
     expect_declarant("an inventariante", DECPF, "N|||S|20240101|1|11144477735|B|", 0, 4, 0);
@@ -1751,6 +1797,253 @@ static void test_check_digits(void)
     test_26_in_file();
     test_26_passes();
     test_26_written();
+}
+
+/* ---- the lawyer's kind, number and name ---- */
+
+/* PROC under DECPJ and RRA under both declarants: every line that A2 asks something of. */
+static const struct { const char *key; unsigned declarant; } blocks_with_lawyer[] = {
+    {"PROC|1|7|", DECPJ}, {"RRA|1||", DECPF}, {"RRA|2|7|", DECPJ}};
+
+/* The end of a line, from field 4 on, in each of these blocks, in a file and by the writer: passed with number 0. */
+static void expect_lawyer(const char *what, const char *rest, uint32_t number, uint32_t field)
+{
+    for (unsigned b = 0; b < 3; b++) {
+        const char *key = blocks_with_lawyer[b].key;
+        unsigned kind = key[0] == 'P' ? named("PROC") : named("RRA");
+        char line[PEOPLE_LINE], ended[PEOPLE_LINE];
+        uint8_t out[PEOPLE_LINE];
+        sprintf(line, "%s%s", key, rest);
+        sprintf(ended, "%s%s~FIMDirf|", key, rest);
+        expect_after(what, blocks_with_lawyer[b].declarant, ended, number, number ? 4 : 5, field);
+        expect_written(what, kind, line, number, field);
+        plain_written w = write_fields(kind, line, out, sizeof out);
+        is_true(w.count == (number ? 0 : strlen(line) + 2), "count of a lawyer's line", w.count, w.number);
+        w = write_fields(kind, line, NULL, 0);
+        is_true(w.number == (number ? number : 24) && w.field == field, "24 after a lawyer's 19", w.number, w.field);
+    }
+}
+
+/* The maker's lawyers in the words of a line: none, a person, an office. */
+static void test_lawyer_maker(void)
+{
+    static const char *const made[] = {"|||", "1|11144477735|A|", "2|11222333000181|B|"};
+    for (unsigned i = 0; i < 3; i++) {
+        char line[64] = "", field[PEOPLE_ID];
+        for (unsigned f = 4; f <= 6; f++) {
+            people_lawyer(i, f, i == PEOPLE_PERSON ? 111444777 : 11222333, field);
+            strcat(strcat(line, field), "|");
+        }
+        is_true(strcmp(line, made[i]) == 0, "a lawyer made", i, 0);
+    }
+    is_true(people_longest(0) == 0 && people_longest(1) == 60 && people_longest(2) == 150, "the longest names", 0, 0);
+}
+
+/* Each cell of A2's table at its edges, in the words of a line. */
+static void test_lawyer_cells(void)
+{
+    static const struct { const char *rest; uint32_t number, field; } c[] = {
+        {"||||", 0, 0}, {"|||1|", 0, 0}, {"|||9999999999999|", 0, 0},
+        {"|11144477735|||", 19, 5}, {"|11222333000181|||", 19, 5}, {"|00000000000|||", 19, 5}, {"|00000000000000|||", 19, 5},
+        {"||A||", 19, 6}, {"|| ||", 19, 6}, {"||0||", 19, 6}, {"||" NAME60 "||", 19, 6}, {"||" NAME60 "1||", 19, 6},
+        {"||" NAME150 "||", 19, 6}, {"|11144477735|A||", 19, 5}, {"|11222333000181|" NAME150 "||", 19, 5}, {"||A|1|", 19, 6},
+        {"1||||", 0, 0}, {"1|||1|", 0, 0}, {"1|11144477735|||", 0, 0}, {"1||A||", 0, 0}, {"1|11144477735|A||", 0, 0},
+        {"1|11144477735|A|1|", 0, 0}, {"1|00000000000|A||", 0, 0}, {"1|11144477735|" NAME60 "||", 0, 0}, {"1||" NAME60 "||", 0, 0},
+        {"1|11144477735|" NAME60 "1||", 19, 6}, {"1||" NAME60 "1||", 19, 6}, {"1|11144477735|" NAME150 "||", 19, 6},
+        {"1|11222333000181|||", 19, 5}, {"1|11222333000181|A||", 19, 5}, {"1|00000000000000|||", 19, 5},
+        {"1|11222333000181|" NAME60 "1||", 19, 5}, {"1|11222333000181|" NAME150 "|1|", 19, 5},
+        {"2||||", 0, 0}, {"2|||1|", 0, 0}, {"2|11222333000181|||", 0, 0}, {"2||A||", 0, 0}, {"2|11222333000181|A||", 0, 0},
+        {"2|11222333000181|A|1|", 0, 0}, {"2|00000000000000|A||", 0, 0}, {"2|11222333000181|" NAME60 "||", 0, 0},
+        {"2|11222333000181|" NAME60 "1||", 0, 0}, {"2|11222333000181|" NAME150 "||", 0, 0}, {"2||" NAME150 "||", 0, 0},
+        {"2|11144477735|||", 19, 5}, {"2|11144477735|A||", 19, 5}, {"2|00000000000|||", 19, 5},
+        {"2|11144477735|" NAME60 "1||", 19, 5}, {"2|11144477735|" NAME150 "|1|", 19, 5}};
+    for (unsigned i = 0; i < sizeof c / sizeof *c; i++)
+        expect_lawyer(c[i].rest, c[i].rest, c[i].number, c[i].field);
+}
+
+/* Every lawyer with every number and every length of name, and with an amount or none: one byte of a name is one character. */
+static void test_every_lawyer(void)
+{
+    static const char *const fours[] = {"", "1", "2"}, *const fives[] = {"", "11144477735", "11222333000181"};
+    static const unsigned longest[] = {0, 60, 150};
+    for (unsigned i = 0; i < 9; i++)
+        for (unsigned n = 0; n <= 153; n++) {
+            unsigned four = i % 3, five = i / 3, field = 0;
+            char rest[600];
+            sprintf(rest, "%s|%s|%s|%s|", fours[four], fives[five], many("AZ \xC3\xFF"[n % 5], n), n % 2 ? "1" : "");
+            if (n > 150)
+                field = 6;
+            else if (five != 0 && five != four)
+                field = 5;
+            else if (n > longest[four])
+                field = 6;
+            expect_lawyer("every lawyer", rest, n > 150 ? 15 : field ? 19 : 0, field);
+        }
+}
+
+/* One byte is one character: a letter of two bytes counts twice, and a blank counts like a letter. */
+static void test_lawyer_bytes(void)
+{
+    static const char *const letters[] = {"\xC3\x87", "  ", "\xFF\x80", "\x01\x7F"};
+    for (unsigned i = 0; i < 4 * 152; i++) {
+        unsigned bytes = i / 4;
+        char name[160] = "", rest[256];
+        for (unsigned n = 0; n < bytes; n++)
+            name[n] = letters[i % 4][n % 2];
+        for (unsigned lawyer = PEOPLE_NONE; lawyer <= PEOPLE_OFFICE; lawyer++) {
+            unsigned most = people_longest(lawyer);
+            sprintf(rest, "%s||%s||", lawyer == PEOPLE_NONE ? "" : lawyer == PEOPLE_PERSON ? "1" : "2", name);
+            expect_lawyer("bytes of a name", rest, bytes > 150 ? 15 : bytes > most ? 19 : 0, bytes > most ? 6 : 0);
+        }
+    }
+}
+
+/* Another fault of the same field: its own numbers come before 19, whatever field 4 says. */
+static void test_lawyer_same_field(void)
+{
+    static const char *const fours[] = {"", "1", "2"};
+    static const struct { const char *rest; uint32_t number, field; } c[] = {
+        {"|0|||", 15, 5}, {"|1114447773|||", 15, 5}, {"|111444777350|||", 15, 5}, {"|1122233300018|||", 15, 5},
+        {"|112223330001810|||", 15, 5}, {"|1114447773|A||", 15, 5}, {"|1114447773|" NAME60 "1||", 15, 5},
+        {"|1114447773X|||", 14, 5}, {"|1122233300018X|||", 14, 5}, {"| |||", 14, 5}, {"|111.444.777-35|||", 14, 5},
+        {"|" BAD_CPF "|||", 26, 5}, {"|" BAD_CNPJ "|||", 26, 5}, {"|" BAD_CPF "|A||", 26, 5}, {"|" BAD_CNPJ "|A||", 26, 5},
+        {"|" BAD_CPF "|" NAME60 "1||", 26, 5}, {"|" BAD_CNPJ "|" NAME60 "1||", 26, 5}, {"||" NAME150 "1||", 15, 6}};
+    for (unsigned i = 0; i < 3; i++)
+        for (unsigned j = 0; j < sizeof c / sizeof *c; j++) {
+            char rest[256];
+            sprintf(rest, "%s%s", fours[i], c[j].rest);
+            expect_lawyer(rest, rest, c[j].number, c[j].field);
+        }
+}
+
+/* Another field's fault, before or behind the lawyer's in the line: 19 comes after all fields. */
+static void test_lawyer_other_field(void)
+{
+    static const char *const broken[] = {"1|11222333000181||", "2|11144477735||", "|11144477735||", "||A|", "1||" NAME60 "1|",
+        "1|11222333000181|" NAME60 "1|", "|11222333000181|A|"};
+    static const struct { const char *before, *after; uint32_t number, field; } c[] = {
+        {"PROC||7|", "|", 13, 2}, {"PROC|X|7|", "|", 14, 2}, {"PROC|11|7|", "|", 15, 2}, {"PROC|4|7|", "|", 18, 2},
+        {"PROC|1||", "|", 13, 3}, {"PROC|1|123456789012345678901|", "|", 15, 3}, {"PROC|1|7|", "X|", 14, 7},
+        {"PROC|1|7|", "12345678901234|", 15, 7}, {"PROC|1|7|", "0|", 16, 7}, {"PROC|1|7|", "01|", 16, 7},
+        {"RRA||7|", "|", 13, 2}, {"RRA|X||", "|", 14, 2}, {"RRA|11||", "|", 15, 2}, {"RRA|3||", "|", 18, 2},
+        {"RRA|1|123456789012345678901|", "|", 15, 3}, {"RRA|1||", " 1|", 14, 7}, {"RRA|1||", "99999999999999|", 15, 7},
+        {"RRA|1||", "0|", 16, 7}, {"RRA|2|7|", "00|", 16, 7}};
+    for (unsigned i = 0; i < sizeof broken / sizeof *broken; i++)
+        for (unsigned j = 0; j < sizeof c / sizeof *c; j++) {
+            char line[PEOPLE_LINE];
+            sprintf(line, "%s%s%s", c[j].before, broken[i], c[j].after);
+            expect_line_fault(line, line, c[j].number, c[j].field);
+        }
+    expect_lawyer("15 in 6 before 19 in 5", "1|11222333000181|" NAME150 "1||", 15, 6);
+    expect_lawyer("15 in 6 before 19 in 5", "2|11144477735|" NAME150 "1||", 15, 6);
+    expect_lawyer("15 in 6 before 19 in 5", "|11144477735|" NAME150 "1||", 15, 6);
+    expect_lawyer("26 in 5 before 15 in 6", "1|" BAD_CNPJ "|" NAME150 "1||", 26, 5);
+    expect_lawyer("26 in 5 before 16 in 7", "1|" BAD_CNPJ "||0|", 26, 5);
+}
+
+/* A field 4 that is no lawyer's kind is named before all that it would ask of 5 and 6. */
+static void test_lawyer_kind(void)
+{
+    static const char *const rests[] = {"||||", "|11144477735|||", "|11222333000181|||", "||A||", "||" NAME60 "1||",
+        "|" BAD_CPF "|||", "|1|||", "||||", "|||0|"};
+    static const struct { const char *four; uint32_t number; } c[] = {
+        {"0", 18}, {"3", 18}, {"9", 18}, {"01", 15}, {"11", 15}, {"12", 15}, {"X", 14}, {" ", 14}, {"1 ", 14}};
+    for (unsigned i = 0; i < sizeof c / sizeof *c; i++)
+        for (unsigned j = 0; j < sizeof rests / sizeof *rests; j++) {
+            char rest[256];
+            sprintf(rest, "%s%s", c[i].four, rests[j]);
+            expect_lawyer(rest, rest, c[i].number, 4);
+        }
+}
+
+#define BAD_LAWYER "1|11222333000181|||"
+
+/* The other rules of the line: 4 to 12 and 11 come before 19, 20 and 7 after. */
+static void test_lawyer_in_file(void)
+{
+    expect_after("8 before a lawyer's 19", DECPJ, "PROC|1|7|1|11222333000181||1", 8, 4, 0);
+    expect_after("9 before a lawyer's 19", DECPJ, "PROX|1|7|" BAD_LAWYER, 9, 4, 1);
+    expect_after("12 before a lawyer's 19", DECPF, "PROC|1|7|" BAD_LAWYER, 12, 4, 1);
+    expect_after("12 before a lawyer's 19, by order", DECPJ, "RRA|1||||||~PROC|1|7|" BAD_LAWYER, 12, 5, 1);
+    expect_after("12 before a lawyer's 19, by order", DECPF, "SCP|{cnpj 1}|A|~RRA|1||||A||", 12, 5, 1);
+    expect_after("11 before a lawyer's 19", DECPJ, "PROC|1|7|1|11222333000181||", 11, 4, 0);
+    expect_after("11 before a lawyer's 19", DECPF, "RRA|1||" BAD_LAWYER "|", 11, 4, 0);
+    expect_after("11 before a lawyer's 19", DECPF, "RRA|1||||A|", 11, 4, 0);
+    expect_after("19 before an equal key", DECPJ, "PROC|1|7|||||~PROC|1|7|" BAD_LAWYER, 19, 5, 5);
+    expect_after("19 before an equal key", DECPJ, "PROC|1|7|||||~PROC|1|7|||A||", 19, 5, 6);
+    expect_after("19 before a lesser key", DECPF, "RRA|2||||||~RRA|1||2|11144477735|||", 19, 5, 5);
+    expect_after("19 before a lesser key", DECPJ, "RRA|1|8|||||~RRA|1|7|1||" NAME60 "1||", 19, 5, 6);
+    expect_after("20 with a lawyer that fits", DECPJ, "PROC|1|7|||||~PROC|1|7|1|11144477735|" NAME60 "||", 20, 5, 2);
+    expect_after("19 and no end", DECPJ, "PROC|1|7|" BAD_LAWYER, 19, 4, 5);
+    expect_after("2 before a lawyer's 19", DECPF, "FIMDirf|~RRA|1||" BAD_LAWYER, 2, 5, 0);
+    expect_after("the first line that breaks it", DECPJ, "PROC|1|7|||A||~PROC|1|8|" BAD_LAWYER, 19, 4, 6);
+    expect_after("a later line that breaks it", DECPJ, "PROC|1|7|2|11222333000181|A||~IDREC|0561|~BPFPROC|{cpf 1}|A||"
+                 "~PROC|1|8|" BAD_LAWYER, 19, 7, 5);
+    expect_after("a block of each after the other", DECPJ, "PROC|1|7|2|{cnpj 7}|A||~PROC|1|8|1|{cpf 7}|A||~PROC|1|9|||||"
+                 "~RRA|1||1|{cpf 7}|A||~RRA|1|7|2|{cnpj 7}|A||~RRA|2||||||~FIMDirf|", 0, 10, 0);
+}
+
+/* The line's end and its length come before 19, and the room after it. */
+static void test_lawyer_ends(void)
+{
+    static const char *const ends[] = {"", "\r", "\n", "\r\r\n"};
+    static const struct { const char *line; uint32_t number, field; } c[] = {
+        {"PROC|1|7|" BAD_LAWYER, 19, 5}, {"PROC|1|7|||A||", 19, 6}, {"PROC|1|7|1|11144477735|A||", 7, 0},
+        {"RRA|1||2|11144477735|||", 19, 5}, {"RRA|1||1||" NAME60 "1||", 19, 6}, {"RRA|1||2|11222333000181|||", 7, 0}};
+    for (unsigned i = 0; i < sizeof c / sizeof *c; i++) {
+        text t = head(DECPJ, 0);
+        add_line(&t, c[i].line);
+        expect_room("a lawyer's 19 before 7", &t, 3, c[i].number, 4, c[i].field);
+        expect_room("7 in a line before", &t, 2, 7, 3, 0);
+        drop(&t);
+    }
+    for (unsigned i = 0; i < sizeof ends / sizeof *ends; i++) {
+        text t = head(DECPJ, 0);
+        add(&t, "PROC|1|7|" BAD_LAWYER);
+        add(&t, ends[i]);
+        expect("5 and 6 before a lawyer's 19", &t, i < 2 ? 5 : 6, 4, 0);
+        drop(&t);
+    }
+    text t = head(DECPF, 0);
+    add(&t, "RRA|1||1||");
+    for (unsigned i = 0; i < 5; i++)
+        add(&t, many('A', 300));
+    add(&t, "||\r\n");
+    expect("4 before a lawyer's 19", &t, 4, 4, 0);
+    drop(&t);
+}
+
+/* What the writer asks before any field, field 1 before the others, and bytes that no line of a file can hold. */
+static void test_lawyer_written(void)
+{
+    static const uint8_t contents[] = "RRA1111222333000181";
+    size_t lengths[] = {3, 1, 0, 1, 14, 0, 0};
+    uint8_t out[64];
+    unsigned proc = named("PROC"), rra = named("RRA");
+    is_true(plain_write_line(edition, 20, contents, 19, lengths, 7, out, 64).number == 22, "22 before 19", 0, 0);
+    is_true(plain_write_line(edition, rra, contents, 19, lengths, 6, out, 64).number == 11, "11 before 19", 0, 0);
+    is_true(plain_write_line(edition, rra, contents, 18, lengths, 7, out, 64).number == 23, "23 before 19", 0, 0);
+    plain_written w = plain_write_line(edition, rra, contents, 19, lengths, 7, out, 64);
+    is_true(w.number == 19 && w.field == 5 && w.count == 0, "19 written", w.number, w.field);
+    expect_written("18 in field 1 before 19", proc, "PROX|1|7|" BAD_LAWYER, 18, 1);
+    expect_written("15 in field 1 before 19", rra, "RR|1||" BAD_LAWYER, 15, 1);
+    expect_written("14 in field 6 before 19 in 6", proc, "PROC|1|7|||A\r||", 14, 6);
+    expect_written("14 in field 6 before 19 in 5", rra, "RRA|1||1|11222333000181|\n||", 14, 6);
+    expect_written("14 in field 6 before 19 in 6", rra, "RRA|1||1||" NAME60 "\r||", 14, 6);
+}
+
+static void test_lawyers(void)
+{
+    test_lawyer_maker();
+    test_lawyer_cells();
+    test_every_lawyer();
+    test_lawyer_bytes();
+    test_lawyer_same_field();
+    test_lawyer_other_field();
+    test_lawyer_kind();
+    test_lawyer_in_file();
+    test_lawyer_ends();
+    test_lawyer_written();
 }
 
 /* ---- the two editions ---- */
@@ -2280,13 +2573,26 @@ static void spoil(char *id, size_t len)
     }
 }
 
-/* A good line with optional fields often empty, sizes often full and either number of a lawyer; some contents are odd if changed. */
+/* A lawyer's field, 5 and 6 now and then empty and the name of any length that the lawyer lets it have. */
+static void random_lawyer(unsigned lawyer, unsigned f, char *out)
+{
+    unsigned longest = people_longest(lawyer);
+    people_lawyer(lawyer, f, serial, out);
+    if (f > 4 && below_n(4) == 0)
+        out[0] = 0;
+    else if (f == 6 && longest > 0 && below_n(2))
+        strcpy(out, many("AZ \x80\xFF"[below_n(5)], below_n(3) ? 1 + below_n(longest) : longest));
+}
+
+/* A good line with optional fields often empty, sizes often full and every lawyer; if changed, some contents are odd and some
+   lawyers' fields are made for another lawyer. */
 static void random_line(text *t, unsigned kind, int changed)
 {
     static const char *const odd[] = {"", "0", "00", "1", "2", "9", "S", "N", "X", "01", "2025", "2022", "2024", "2021",
         "R6GP3ZA", "XJFSFHB",
         "20240229", "20230229", "11144477735", BAD_CPF, "11222333000181", "99999999999999", "A|", "A", "000", "123456789",
         "12345678", "1234567", "\xC3\x87", "2,3", ",", "S,N"};
+    unsigned lawyer = below_n(3);
     for (unsigned f = 1; f <= plain_fields(edition, kind); f++) {
         char field[160];
         plain_row r = plain_field_row(edition, kind, f);
@@ -2294,12 +2600,12 @@ static void random_line(text *t, unsigned kind, int changed)
         if (people_flag(kind, f, scp_to_come) != NULL)
             strcpy(field, people_flag(kind, f, scp_to_come));
         int key = kind == named("RRA") && f == 3;
-        if (f > 1 && !r.obligatory && !key && below_n(2))
+        if (people_is_lawyer(plain_name(kind), f))
+            random_lawyer(changed && below_n(12) == 0 ? below_n(3) : lawyer, f, field);
+        else if (f > 1 && !r.obligatory && !key && below_n(2))
             field[0] = 0;
         else if (f > 2 && r.values == NULL && r.format == 'C' && r.size > 20 && below_n(3) == 0)
             strcpy(field, many("AZ \x80\xFF"[below_n(5)], 1 + below_n(r.size)));
-        else if (r.cpf_or_cnpj && below_n(2))
-            good_id(14, serial, field);
         else if (r.amount || r.months)
             sprintf(field, "%u", 1 + below_n(r.months ? 9999 : 2000000000));
         if (changed && people_is_id(plain_name(kind), f) && field[0] && below_n(30) == 0)
@@ -2409,6 +2715,7 @@ static void change(text *t)
 
 static void test_random_files(unsigned rounds)
 {
+    unsigned long lawyers = 0;
     for (unsigned i = 0; i < rounds; i++) {
         text t = random_file(0);
         plain_answer a = run(t.bytes, t.len, 10000);
@@ -2423,9 +2730,11 @@ static void test_random_files(unsigned rounds)
         run(t.bytes, t.len, below_n(4) ? 10000 : below_n(40));
         drop(&t);
         t = random_file(1);
-        run(t.bytes, t.len, below_n(4) ? 10000 : below_n(40));
+        a = run(t.bytes, t.len, below_n(4) ? 10000 : below_n(40));
+        lawyers += a.number == 19 && (a.field == 5 || a.field == 6);
         drop(&t);
     }
+    is_true(lawyers > rounds / 100, "now and then a lawyer's 19", lawyers, rounds);
 }
 
 /* Where a CPF or CNPJ of a file stands. */
@@ -2467,6 +2776,56 @@ static void test_one_spoiled(unsigned rounds)
         drop(&t);
     }
     is_true(spoiled > rounds / 2, "spoiled files", spoiled, rounds);
+}
+
+/* Start and length of the n-th PROC or RRA, from 0, and its line; gives how many there are. */
+static unsigned nth_lawyer(const text *t, unsigned n, size_t *at, size_t *length, uint32_t *line)
+{
+    unsigned count = 0;
+    uint32_t number = 1;
+    for (size_t start = 0, len; start < t->len; start += len + 2, number++) {
+        const char *s = (const char *)t->bytes + start;
+        len = strcspn(s, "\r");
+        if ((strncmp(s, "PROC|", 5) == 0 || strncmp(s, "RRA|", 4) == 0) && count++ == n) {
+            *at = start;
+            *length = len;
+            *line = number;
+        }
+    }
+    return count;
+}
+
+/* Gives one lawyer of a file the kind of one, the number of another and any name: 0, or the field that breaks A2. */
+static uint32_t cross_lawyer(text *t, uint32_t *line)
+{
+    size_t at = 0, len = 0, from, to, l;
+    unsigned lawyers = nth_lawyer(t, 0, &at, &len, line);
+    unsigned kind = below_n(3), number = below_n(3), name = below_n(2) ? 55 + below_n(10) : below_n(151);
+    char three[600], four[PEOPLE_ID], five[PEOPLE_ID];
+    if (lawyers == 0)
+        return 0;
+    nth_lawyer(t, below_n(lawyers), &at, &len, line);
+    plain_field(t->bytes + at, len, 4, &from, &l);
+    plain_field(t->bytes + at, len, 7, &to, &l);
+    people_lawyer(kind, 4, 7, four);
+    people_lawyer(number, 5, 7, five);
+    sprintf(three, "%s|%s|%s|", four, five, many('A', name));
+    splice(t, at + from, at + to, three, strlen(three));
+    return number != PEOPLE_NONE && number != kind ? 5 : name > people_longest(kind) ? 6 : 0;
+}
+
+/* A right file with one lawyer crossed is 19 there, unless by chance the new fields fit. */
+static void test_one_crossed(unsigned rounds)
+{
+    unsigned long broken[7] = {0};
+    for (unsigned i = 0; i < rounds; i++) {
+        text t = random_file(0);
+        uint32_t line = 0, lines = (uint32_t)count_lf(t.bytes, t.len), field = cross_lawyer(&t, &line);
+        expect("one lawyer crossed", &t, field ? 19 : 0, field ? line : lines, field);
+        broken[field]++;
+        drop(&t);
+    }
+    is_true(broken[5] > rounds / 9 && broken[6] > rounds / 9, "crossed files", broken[5], broken[6]);
 }
 
 /* Random digits with their right ending, which is found by trying, as the makers know one branch only. */
@@ -2604,6 +2963,7 @@ static void test_one_edition(unsigned rounds)
 {
     test_makers();
     test_spoiled();
+    test_spoiled_lawyers();
     test_marked();
     test_lines_alone();
     test_records_alone();
@@ -2622,10 +2982,12 @@ static void test_one_edition(unsigned rounds)
     test_every_row();
     test_writer();
     test_check_digits();
+    test_lawyers();
     test_editions();
     test_helpers();
     test_random_files(rounds);
     test_one_spoiled(rounds / 3 + 10);
+    test_one_crossed(rounds / 3 + 100);
     test_random_ids(rounds);
     test_exchanged(rounds / 10 + 10);
     test_cuts(rounds / 1000 + 2);
