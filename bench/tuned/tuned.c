@@ -79,6 +79,9 @@ static breach open_code(check *c, const uint8_t *key)
 static breach open_block(check *c, unsigned kind, const uint8_t *key)
 {
     int pair = kind == PROC || kind == RRA;
+    uint32_t field = pair ? tuned_lawyer(key) : 0;
+    if (field != 0)
+        return (breach){19, field};
     if (c->block == kind && !(pair ? pair_rises(key, c->block_key) : key_rises(key, c->block_key, c->rows[kind]->size)))
         return key_not_greater;
     c->block = kind;

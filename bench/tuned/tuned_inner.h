@@ -70,6 +70,9 @@ int tuned_is_date(const uint8_t *at);
 /* 0, or the lowest field of a DECPF in which a condition is broken; its fields passed. */
 uint32_t tuned_condition(const uint8_t *line);
 
+/* The same of a PROC or RRA, from its field 2 on. */
+uint32_t tuned_lawyer(const uint8_t *key);
+
 enum edition tuned_edition(const uint8_t *file, size_t len);
 
 /* The check digit, as a byte of a file, that a sum of weighted digits asks for; the greatest sum is 585, a CPF's. */

@@ -1,11 +1,11 @@
 /* What is asked once a file at most, and of the rarer fields: a field's own number, the order of numbers in a line that did not pass,
-   DECPF's conditions, and the edition. */
+   the conditions of DECPF, PROC and RRA, and the edition. */
 #include <string.h>
 
 #include "tuned_digits.h"
 #include "tuned_inner.h"
 
-enum { MOST_BYTES = 1024, MARK_FIELD = 6, MARK_SIZE = 7 };
+enum { MOST_BYTES = 1024, MARK_FIELD = 6, MARK_SIZE = 7, PERSON_NAME = 60 };
 
 const uint8_t tuned_class[256] = {
     ['0'] = A_DIGIT, ['1'] = A_DIGIT, ['2'] = A_DIGIT, ['3'] = A_DIGIT, ['4'] = A_DIGIT, ['5'] = A_DIGIT, ['6'] = A_DIGIT, ['7'] = A_DIGIT,
@@ -149,6 +149,30 @@ uint32_t tuned_condition(const uint8_t *line)
     if (*field[10] == '1' && *field[11] != 'S')
         return 11;
     return *field[13] != BAR ? 13 : 0;
+}
+
+/* Behind the next bar of a line that passed, which has bytes behind it that may be read. */
+static const uint8_t *behind_bar(const uint8_t *at)
+{
+    uint64_t marks;
+    while ((marks = bars(load(at))) == 0)
+        at += 8;
+    return at + through_mark(marks);
+}
+
+uint32_t tuned_lawyer(const uint8_t *key)
+{
+    /* field 2 is one byte and its bar, and so is 4 where it is filled */
+    const uint8_t *kind = behind_bar(key + 2), *number = kind + 2;
+    if (*kind == BAR)
+        return kind[1] != BAR ? 5 : kind[2] != BAR ? 6 : 0;
+    unsigned digits = *number == BAR ? 0 : number[CPF_SIZE] == BAR ? CPF_SIZE : CNPJ_SIZE;
+    if (*kind != '1')
+        return digits == CPF_SIZE ? 5 : 0;
+    if (digits == CNPJ_SIZE)
+        return 5;
+    const uint8_t *name = number + digits + 1;
+    return behind_bar(name) - name > PERSON_NAME + 1 ? 6 : 0;
 }
 
 /* Only CR LF ends line 1 here, however far away it is, and what stands behind the sixth bar is not looked at. */

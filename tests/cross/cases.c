@@ -28,7 +28,9 @@ plan make_file(uint64_t seed, declaration *d, file_text *file)
     if (p.crossed)
         cross_line_one(d);
     unsigned way = chance(10);
-    /* 26 has many fields to come up in, so it alone has one file of ten */
+    /* 26 has many fields to come up in and 19 many ways, so one file of ten has 26 alone, and one of twenty 19 */
+    if (way == 1 && chance(2))
+        p.first = broken(d, CONDITION);
     if (way >= 2 && way <= 7)
         p.first = broken(d, way == 2 ? WRONG_DIGITS : any_rule(1));
     if (way >= 4 && way <= 7)

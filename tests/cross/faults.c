@@ -280,18 +280,69 @@ static int repeat_line(declaration *d, unsigned at)
     return line != NULL;
 }
 
-/* 19: field 8 of DECPF is S, and the others by chance. */
-static int broken_condition(declaration *d)
+/* DECPF: field 8 is S, and the others by chance, so that each is named about as often. */
+static void break_declarant(text_line *line)
 {
-    if (d->declarant != DECPF || d->count < 3)
-        return 0;
-    text_line *line = &d->line[2];
-    set_field(line, 8, "S", 1);
-    set_field(line, 9, "20240301", chance(2) ? 8 : 0);
-    set_field(line, 10, chance(2) ? "1" : "2", chance(3) ? 1 : 0);
+    set_field(line, DECPF_SPECIAL, "S", 1);
+    set_field(line, 9, "20240301", chance(4) ? 8 : 0);
+    set_field(line, 10, chance(3) ? "1" : "2", chance(4) ? 1 : 0);
     set_field(line, 11, chance(2) ? "S" : "N", 1);
     set_field(line, 13, chance(2) ? "0" : "1", chance(2) ? 1 : 0);
-    return 1;
+}
+
+/* The digits of a number that this lawyer may not have: the other kind's, or either's where there is none. */
+static unsigned other_digits(const lawyer *l)
+{
+    int person = l->digits == 0 ? chance(2) == 0 : l->digits != CPF_SIZE;
+    return person ? CPF_SIZE : CNPJ_SIZE;
+}
+
+/* A name that is too long for this lawyer, often by one byte, or now and then for every one. */
+static unsigned long_name(const lawyer *l)
+{
+    if (l->most == LONGEST_NAME || chance(12) == 0)
+        return LONGEST_NAME + 1;
+    return chance(3) == 0 ? l->most + 1 : chance(3) == 0 ? LONGEST_NAME : l->most + 1 + chance(LONGEST_NAME - l->most);
+}
+
+/* PROC and RRA: a number of the other kind, a name that is too long, or one of them without a kind; often both. */
+static void break_lawyer(text_line *line)
+{
+    const lawyer *l = &lawyers[chance(LAWYERS)];
+    /* of a firm no name is too long that is not too long for the field */
+    int in_number = l->most == LONGEST_NAME || chance(2), in_name = !in_number || chance(2);
+    unsigned digits = in_number ? other_digits(l) : chance(2) ? l->digits : 0;
+    set_lawyer(line, l->kind, digits, in_name ? long_name(l) : sound_name(l));
+    /* the field behind them is asked first */
+    if (chance(12) == 0)
+        set_field(line, LAWYER_NAME + 1, chance(2) ? "0" : "A", 1);
+}
+
+static int has_conditions(const text_line *line)
+{
+    return line->kind == DECPF || has_lawyer(line->kind);
+}
+
+/* Those of the line's record; 0 where it has none. */
+static int break_conditions(text_line *line)
+{
+    if (line->kind == DECPF)
+        break_declarant(line);
+    else if (has_lawyer(line->kind))
+        break_lawyer(line);
+    return has_conditions(line);
+}
+
+/* 19: each line that has conditions is as likely. Now and then its key has come before, since 20 is asked after 19. */
+static int broken_condition(declaration *d)
+{
+    unsigned at = 0, found = 0;
+    for (unsigned i = 0; i < d->count; i++)
+        if (has_conditions(&d->line[i]) && chance(++found) == 0)
+            at = i;
+    if (has_lawyer(d->line[at].kind) && chance(8) == 0)
+        at += (unsigned)repeat_line(d, at);
+    return break_conditions(&d->line[at]);
 }
 
 /* 20: a record with a key twice, or with another key that is hardly ever greater. */
@@ -375,9 +426,9 @@ static int spoil_any(text_line *lines, unsigned count)
     return line != NULL && spoil_field(line, field);
 }
 
-int spoil_line(text_line *line)
+int break_line(text_line *line, unsigned number)
 {
-    return spoil_any(line, 1);
+    return number == CONDITION ? break_conditions(line) : spoil_any(line, 1);
 }
 
 static int wrong_digits(declaration *d)
@@ -387,7 +438,7 @@ static int wrong_digits(declaration *d)
 
 static int (*const breakers[])(declaration *) = {
     [1] = not_closed, [2] = after_the_end, [4] = too_long, [5] = cut_short, [6] = wrong_end, [8] = no_last_bar,
-    [9] = unknown, [10] = left_for_later, [11] = wrong_count, [12] = misplaced, [19] = broken_condition, [20] = not_greater,
+    [9] = unknown, [10] = left_for_later, [11] = wrong_count, [12] = misplaced, [CONDITION] = broken_condition, [20] = not_greater,
     [21] = repeated, [WRONG_DIGITS] = wrong_digits,
 };
 

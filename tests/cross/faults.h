@@ -5,7 +5,7 @@
 #include "declaration.h"
 
 /* A rule has the number that is given where it is broken. */
-enum { WRONG_DIGITS = 26, LAST_RULE = WRONG_DIGITS };
+enum { CONDITION = 19, WRONG_DIGITS = 26, LAST_RULE = WRONG_DIGITS };
 
 /* Tries to bring about this number. Gives 1 if something was changed. */
 int break_rule(declaration *d, unsigned number);
@@ -16,8 +16,8 @@ int can_break(unsigned number);
 /* One of those from `least` on, which is at most the last. */
 unsigned any_rule(unsigned least);
 
-/* Spoils one CPF or CNPJ of the line, as 26 does it. Gives 0 where its record holds none. */
-int spoil_line(text_line *line);
+/* Breaks 19 or 26 in this line. Gives 0 where its record cannot have that number. */
+int break_line(text_line *line, unsigned number);
 
 /* Changes, drops, doubles or puts in a byte, or cuts the file anywhere. */
 void damage_bytes(file_text *file);

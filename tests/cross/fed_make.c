@@ -96,12 +96,24 @@ static void any_kind(text_line *line, plain_edition edition)
     sound_line(line, plain_is_base(edition, kind) ? edition : PLAIN_2025, kind);
 }
 
-/* One of any kind that holds a CPF or a CNPJ, in which one of these is wrong. */
-static void wrong_digits(text_line *line, plain_edition edition)
+/* One of any kind that can have this number, in which it is broken. */
+static unsigned broken_kind(text_line *line, plain_edition edition, unsigned number)
 {
     do
         any_kind(line, edition);
-    while (!spoil_line(line));
+    while (!break_line(line, number));
+    return number;
+}
+
+/* Half sound, a quarter with 26 and an eighth with 19 broken, else left as it is. Gives the number, or 0. */
+static unsigned other_line(text_line *line, plain_edition edition)
+{
+    unsigned way = chance(8);
+    if (way < 4)
+        any_kind(line, edition);
+    else if (way < 7)
+        return broken_kind(line, edition, way < 6 ? WRONG_DIGITS : CONDITION);
+    return 0;
 }
 
 /* Now and then the writer is told the other edition than that of the line. */
@@ -114,15 +126,14 @@ static void write_case(fed *c)
     for (unsigned left = chance(3); left > 0; left--)
         break_rule(&d, any_rule(11));
     text_line *line = &d.line[chance(d.count)];
-    if (chance(2))
-        any_kind(line, c->edition);
-    else if (chance(2))
-        wrong_digits(line, c->edition);
+    c->broken = other_line(line, c->edition);
     c->number = line->kind;
     memset(c->lengths, 0, sizeof c->lengths);
     contents_of(c, line);
-    if (chance(4) == 0)
+    if (chance(4) == 0) {
         damage_contents(c);
+        c->broken = 0;
+    }
     /* the line has a bar a field and its end beside the contents */
     c->room = chance(4) ? chance(MOST_ROOM + 1) : c->len + c->count + 4 - chance(5);
     if (c->room > MOST_ROOM)

@@ -11,8 +11,33 @@ enum { UNKNOWN = 9 };
 /* How many fields of an edition hold a CPF or a CNPJ. */
 enum { IDENTITY_FIELDS = 18 };
 
-/* The file from a line on, counted from 1; the lines before it are whole. */
-static part from_line(part file, unsigned line)
+/* The conditions as they are broken, DECPF's and then those of PROC and RRA: what stands in the field that each hangs on, how many bytes
+   the field has that is named, and all that in words. */
+static const struct {
+    unsigned on;
+    const char *held;
+    unsigned field, least, most;
+    const char *words;
+} conditions[CONDITIONS] = {
+    {DECPF_SPECIAL, "S", 9, 0, 0, "S in field 8 and field 9 empty"},
+    {DECPF_SPECIAL, "S", 10, 0, 0, "S in field 8 and field 10 empty"},
+    {DECPF_SPECIAL, "S", 11, 1, 1, "S in field 8, 1 in field 10 and field 11 not S"},
+    {DECPF_SPECIAL, "S", 13, 1, 1, "S in field 8 and field 13 filled"},
+    {LAWYER_KIND, "1", LAWYER_NUMBER, CNPJ_DIGITS, CNPJ_DIGITS, "1 in field 4 and 14 digits in field 5"},
+    {LAWYER_KIND, "1", LAWYER_NAME, 61, LONGEST_NAME, "1 in field 4 and over 60 bytes in field 6"},
+    {LAWYER_KIND, "2", LAWYER_NUMBER, CPF_DIGITS, CPF_DIGITS, "2 in field 4 and 11 digits in field 5"},
+    {LAWYER_KIND, "", LAWYER_NUMBER, CPF_DIGITS, CNPJ_DIGITS, "field 4 empty and field 5 filled"},
+    {LAWYER_KIND, "", LAWYER_NAME, 1, LONGEST_NAME, "field 4 empty and field 6 filled"},
+};
+
+/* One of the ways in a field. */
+typedef struct {
+    plain_edition edition;
+    unsigned kind, field, way;
+} spot;
+
+/* A line of the file, counted from 1, up to its CR or LF; the lines before it are whole. */
+static part line_of(part file, unsigned line)
 {
     for (; line > 1; line--) {
         const uint8_t *end = memchr(file.bytes, LF, file.len);
@@ -20,7 +45,10 @@ static part from_line(part file, unsigned line)
             return (part){file.bytes, 0};
         file = (part){end + 1, file.len - (size_t)(end + 1 - file.bytes)};
     }
-    return file;
+    size_t len = 0;
+    while (len < file.len && file.bytes[len] != CR && file.bytes[len] != LF)
+        len++;
+    return (part){file.bytes, len};
 }
 
 static part field_of(part line, unsigned f)
@@ -30,23 +58,27 @@ static part field_of(part line, unsigned f)
     return (part){line.bytes + start, length};
 }
 
-/* By field 26 counts only where its own rule was broken: another rule's fault or a damaged byte gives it now and then as well. */
-static int has_wrong_digits(plan p)
+/* By field a number counts only where its own rule was broken: another rule's fault or a damaged byte gives it now and then as well. */
+static int was_broken(plan p, unsigned number)
 {
-    return !p.damaged && (p.first == WRONG_DIGITS || p.second == WRONG_DIGITS);
+    return !p.damaged && (p.first == number || p.second == number);
 }
 
 void count_file(met *m, part file, plain_answer a, plan p)
 {
     plain_edition edition = plain_edition_of(file.bytes, file.len);
-    part line = from_line(file, a.line);
+    part line = line_of(file, a.line);
     uint32_t kind = plain_kind_of(PLAIN_2025, field_of(line, 1));
     m->files[edition]++;
     m->taken[edition] += a.number == 0;
     if (a.number == UNKNOWN && edition == PLAIN_2022 && kind != NO_KIND)
         m->lacked[kind][a.line > 1]++;
-    if (a.number == WRONG_DIGITS && has_wrong_digits(p))
-        count_digits(&m->in_files, (identity){edition, kind, a.field, (unsigned)field_of(line, a.field).len});
+    if (a.number == 0 || !was_broken(p, a.number))
+        return;
+    refusal r = {.edition = edition, .kind = kind, .found = {a.number, a.field}};
+    for (unsigned f = 1; f <= MOST_FIELDS; f++)
+        r.fields[f - 1] = field_of(line, f);
+    count_refusal(&m->in_files, &r);
 }
 
 void count_plan(met *m, const declaration *d, plan p, plain_edition edition, unsigned number)
@@ -68,41 +100,75 @@ void count_closed(met *m, part file, unsigned lines)
     m->begun[edition] += lines == 0;
 }
 
-static int holds(identity at)
+/* Whether there is such a way in this field. */
+static int can_be(spot at)
 {
     plain_row row = plain_field_row(at.edition, at.kind, at.field);
-    return (at.size == CPF_DIGITS && (row.cpf || row.cpf_or_cnpj)) || (at.size == CNPJ_DIGITS && (row.cnpj || row.cpf_or_cnpj));
+    if (at.way < FIRST_CONDITION)
+        return row.cpf_or_cnpj || (at.way == WRONG_CPF ? row.cpf : row.cnpj);
+    unsigned c = at.way - FIRST_CONDITION;
+    return at.field == conditions[c].field && (conditions[c].on == LAWYER_KIND ? has_lawyer(at.kind) : at.kind == DECPF);
 }
 
-/* Steps through the fields and sizes that 26 can be given for; 0 behind the last. */
-static int next_identity(identity *at)
+/* Whether the line was refused in this way, which its field can be. */
+static int is_way(const refusal *r, unsigned way)
+{
+    size_t bytes = r->fields[r->found.field - 1].len;
+    if (way < FIRST_CONDITION)
+        return r->found.number == WRONG_DIGITS && bytes == (way == WRONG_CPF ? CPF_DIGITS : CNPJ_DIGITS);
+    unsigned c = way - FIRST_CONDITION;
+    part on = r->fields[conditions[c].on - 1];
+    return r->found.number == CONDITION && bytes >= conditions[c].least && bytes <= conditions[c].most
+        && on.len == strlen(conditions[c].held) && memcmp(on.bytes, conditions[c].held, on.len) == 0;
+}
+
+/* Steps through all that can be; 0 behind the last. */
+static int next_spot(spot *at)
 {
     do {
-        at->size = at->size == CPF_DIGITS ? CNPJ_DIGITS : CPF_DIGITS;
-        at->field += at->size == CPF_DIGITS;
+        at->way = (at->way + 1) % WAYS;
+        at->field += at->way == 0;
         if (at->field > MOST_FIELDS) {
             at->field = 1;
             at->kind++;
         }
-    } while (at->kind <= KINDS && !holds(*at));
+    } while (at->kind <= KINDS && !can_be(*at));
     return at->kind <= KINDS;
 }
 
 /* In front of an edition's first. */
-static identity before_all(plain_edition edition)
+static spot before_all(plain_edition edition)
 {
-    return (identity){edition, NO_KIND, 0, CNPJ_DIGITS};
+    return (spot){edition, NO_KIND, 0, WAYS - 1};
 }
 
-void count_digits(digits_met *m, identity at)
+void count_refusal(ways_met *m, const refusal *r)
 {
-    if (holds(at))
-        m->count[at.edition][at.kind][at.field][at.size == CNPJ_DIGITS]++;
+    for (unsigned way = 0; way < WAYS; way++)
+        if (can_be((spot){r->edition, r->kind, r->found.field, way}) && is_way(r, way))
+            m->count[r->edition][r->kind][r->found.field][way]++;
 }
 
-static unsigned long times_met(const digits_met *m, identity at)
+static unsigned long times_met(const ways_met *m, spot at)
 {
-    return m->count[at.edition][at.kind][at.field][at.size == CNPJ_DIGITS];
+    return m->count[at.edition][at.kind][at.field][at.way];
+}
+
+static unsigned number_of(spot at)
+{
+    return at.way < FIRST_CONDITION ? WRONG_DIGITS : CONDITION;
+}
+
+/* What a spot is, behind its number. */
+static const char *words_of(spot at)
+{
+    static char words[100];
+    unsigned digits = at.way == WRONG_CPF ? CPF_DIGITS : CNPJ_DIGITS;
+    if (at.way < FIRST_CONDITION)
+        snprintf(words, sizeof words, "%s %u with %u digits", plain_name(at.kind), at.field, digits);
+    else
+        snprintf(words, sizeof words, "%s with %s", plain_name(at.kind), conditions[at.way - FIRST_CONDITION].words);
+    return words;
 }
 
 /* Whether only 2025 has the kind. */
@@ -171,13 +237,13 @@ static int lacked_met(const met *m)
     return all;
 }
 
-/* 26 in every field that can have it, with either size where it holds either. */
-static int all_digits_met(const digits_met *m, plain_edition edition, const char *where)
+/* 26 in every field that can have it, with either size where it holds either, and 19 by every condition. */
+static int all_ways_met(const ways_met *m, plain_edition edition, const char *where)
 {
     int all = 1;
-    for (identity at = before_all(edition); next_identity(&at);)
+    for (spot at = before_all(edition); next_spot(&at);)
         if (times_met(m, at) == 0)
-            all = not_met("26 for %s %u with %u digits, %s of %u", plain_name(at.kind), at.field, at.size, where, year_of(edition));
+            all = not_met("%u for %s, %s of %u", number_of(at), words_of(at), where, year_of(edition));
     return all;
 }
 
@@ -197,7 +263,7 @@ static int fields_counted(plain_edition edition)
 
 static int edition_met(const met *m, plain_edition edition)
 {
-    int all = kinds_met(m, edition) & fields_counted(edition) & all_digits_met(&m->in_files, edition, "in a file");
+    int all = kinds_met(m, edition) & fields_counted(edition) & all_ways_met(&m->in_files, edition, "in a file");
     if (m->taken[edition] == 0)
         all = not_met("an accepted file of %u", year_of(edition));
     if (m->closed[edition] == 0 || m->begun[edition] == 0 || m->fixed[edition] == 0)
@@ -216,7 +282,7 @@ int all_met(const met *m, unsigned most, unsigned left_out)
 
 int lines_met(const met *m)
 {
-    int all = all_digits_met(&m->in_lines, PLAIN_2025, "in a line") & all_digits_met(&m->in_lines, PLAIN_2022, "in a line");
+    int all = all_ways_met(&m->in_lines, PLAIN_2025, "in a line") & all_ways_met(&m->in_lines, PLAIN_2022, "in a line");
     for (unsigned kind = 1; kind <= KINDS; kind++) {
         for (plain_edition edition = PLAIN_2025; edition <= PLAIN_2022; edition++)
             if (plain_is_base(edition, kind) && m->written[edition][kind] == 0)
@@ -227,14 +293,21 @@ int lines_met(const met *m)
     return all;
 }
 
-/* The field that had 26 least. */
-static void print_least(const digits_met *m, plain_edition edition)
+/* Where the number came up least. */
+static void print_least(const ways_met *m, plain_edition edition, unsigned number)
 {
-    identity least = before_all(edition);
-    for (identity at = least; next_identity(&at);)
-        if (least.kind == NO_KIND || times_met(m, at) < times_met(m, least))
+    spot least = before_all(edition);
+    for (spot at = least; next_spot(&at);)
+        if (number_of(at) == number && (least.kind == NO_KIND || times_met(m, at) < times_met(m, least)))
             least = at;
-    printf("26 came up least in %s %u with %u digits, %lu times\n", plain_name(least.kind), least.field, least.size, times_met(m, least));
+    printf("; %u came up least for %s, %lu times", number, words_of(least), times_met(m, least));
+}
+
+static void print_ways(const ways_met *m, plain_edition edition)
+{
+    print_least(m, edition, WRONG_DIGITS);
+    print_least(m, edition, CONDITION);
+    printf("\n");
 }
 
 void print_met(const char *name, unsigned long cases, unsigned long differ, const met *m)
@@ -245,9 +318,9 @@ void print_met(const char *name, unsigned long cases, unsigned long differ, cons
             printf(" %u:%lu", number, m->number[number]);
     printf("\n");
     for (plain_edition e = PLAIN_2025; e <= PLAIN_2022; e++) {
-        printf("%s, %u: %lu files, %lu accepted; %lu cuts closed, %lu of them with no line; %lu cuts that no tail changes; ", name,
+        printf("%s, %u: %lu files, %lu accepted; %lu cuts closed, %lu of them with no line; %lu cuts that no tail changes", name,
             year_of(e), m->files[e], m->taken[e], m->closed[e], m->begun[e], m->fixed[e]);
-        print_least(&m->in_files, e);
+        print_ways(&m->in_files, e);
     }
     for (unsigned kind = 1; kind <= KINDS; kind++)
         if (is_lacked(kind))
@@ -262,8 +335,8 @@ void print_lines(const char *name, const met *m)
             lines += m->written[e][kind];
             kinds += m->written[e][kind] != 0;
         }
-        printf("%s, line writer told %u: %lu lines of %lu kinds; ", name, year_of(e), lines, kinds);
-        print_least(&m->in_lines, e);
+        printf("%s, line writer told %u: %lu lines of %lu kinds", name, year_of(e), lines, kinds);
+        print_ways(&m->in_lines, e);
     }
     for (unsigned kind = 1; kind <= KINDS; kind++)
         if (is_lacked(kind))

@@ -6,16 +6,22 @@
 #include "cases.h"
 #include "faults.h"
 
-/* A field that 26 can be given for, with so many digits. */
+/* The ways in which a field is refused with 26, by the digits that it has, and with 19, by the condition that is broken. */
+enum { CONDITIONS = 9 };
+enum { WRONG_CPF, WRONG_CNPJ, FIRST_CONDITION, WAYS = FIRST_CONDITION + CONDITIONS };
+
+/* How often each was the answer. */
+typedef struct {
+    unsigned long count[EDITIONS][KINDS + 1][MOST_FIELDS + 1][WAYS];
+} ways_met;
+
+/* A line that was refused, and all the fields that a line can have; those that this one has not are empty. */
 typedef struct {
     plain_edition edition;
-    unsigned kind, field, size;
-} identity;
-
-/* How often 26 was the answer in each, and whether it had a CNPJ's digits. */
-typedef struct {
-    unsigned long count[EDITIONS][KINDS + 1][MOST_FIELDS + 1][2];
-} digits_met;
+    unsigned kind;
+    fault found;
+    part fields[MOST_FIELDS];
+} refusal;
 
 /* An edition is here the one that a file is judged by. But for the numbers only what comes from a seed is counted, so that the listed
    files do not stand in for it. */
@@ -30,14 +36,14 @@ typedef struct {
     unsigned long begun[EDITIONS];                              /* of the cuts that were closed those with no line at all */
     unsigned long written[EDITIONS][KINDS + 1];                 /* lines that the writer wrote, told the edition */
     unsigned long unwritten[KINDS + 1];                         /* 22 for a kind of 2025, told the older edition */
-    digits_met in_files, in_lines;                              /* 26 by the check, where its rule was broken, and by the writer */
+    ways_met in_files, in_lines;                                /* 26 and 19 by the check and by the writer, where that rule was broken */
 } met;
 
 /* Counts a file by its edition, with its answer and what was done to it. */
 void count_file(met *m, part file, plain_answer a, plan p);
 
-/* Counts a 26, where the field is one that can have it. */
-void count_digits(digits_met *m, identity at);
+/* Counts a 26 or a 19, where it is by one of the ways. */
+void count_refusal(ways_met *m, const refusal *r);
 
 /* Counts what the answer to a file of this edition shows of its plan. */
 void count_plan(met *m, const declaration *d, plan p, plain_edition edition, unsigned number);

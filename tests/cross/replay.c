@@ -95,6 +95,18 @@ static void report(uint64_t seed)
     differences++;
 }
 
+/* Counts a line that was refused by the rule that was broken in it; so its lengths add up, and those that it has not are 0. */
+static void count_broken(met *m, fault found)
+{
+    refusal r = {.edition = now.edition, .kind = (unsigned)now.number, .found = found};
+    size_t start = 0;
+    for (unsigned i = 0; i < MOST_FIELDS; i++) {
+        r.fields[i] = (part){now.bytes + start, now.lengths[i]};
+        start += now.lengths[i];
+    }
+    count_refusal(&m->in_lines, &r);
+}
+
 /* What the line writer did with a kind, told the edition: 22 for a kind that 2025 has means that the older one lacks it. */
 static void count_line(met *m, fault found)
 {
@@ -103,8 +115,8 @@ static void count_line(met *m, fault found)
     unsigned kind = (unsigned)now.number;
     m->written[now.edition][kind] += found.number == 0;
     m->unwritten[kind] += found.number == 22 && plain_is_base(PLAIN_2025, kind);
-    if (found.number == WRONG_DIGITS)
-        count_digits(&m->in_lines, (identity){now.edition, kind, found.field, (unsigned)now.lengths[found.field - 1]});
+    if (found.number != 0 && found.number == now.broken)
+        count_broken(m, found);
 }
 
 static void run_batch(uint64_t seed, unsigned long count, met *m)

@@ -95,6 +95,53 @@ unsigned sound_field(const plain_row *row, uint8_t *out)
     return row->format == 'N' ? some_digits(size, out) : some_text(size, out);
 }
 
+/* DECPF where field 8 is S: 9 and 10 are filled, 13 is empty, and 11 is S where 10 is 1. */
+static void keep_conditions(text_line *line)
+{
+    unsigned start, len;
+    uint8_t text[16];
+    find_field(line, DECPF_SPECIAL, &start, &len);
+    if (line->bytes[start] != 'S')
+        return;
+    set_field(line, 9, text, some_date(text));
+    set_field(line, 10, chance(2) ? "1" : "2", 1);
+    set_field(line, 13, "", 0);
+    find_field(line, 10, &start, &len);
+    if (line->bytes[start] == '1')
+        set_field(line, 11, "S", 1);
+}
+
+const lawyer lawyers[LAWYERS] = {{"", 0, 0}, {"1", CPF_SIZE, 60}, {"2", CNPJ_SIZE, LONGEST_NAME}};
+
+void set_lawyer(text_line *line, const char *kind, unsigned digits, unsigned name)
+{
+    uint8_t text[LONGEST_NAME + 1];
+    if (digits > 0)
+        make_identity(digits, chance64(), (char *)text);
+    set_field(line, LAWYER_KIND, kind, (unsigned)strlen(kind));
+    set_field(line, LAWYER_NUMBER, text, digits);
+    set_field(line, LAWYER_NAME, text, some_text(name, text));
+}
+
+unsigned sound_name(const lawyer *l)
+{
+    if (l->most == 0 || chance(4) == 0)
+        return 0;
+    return chance(4) ? 1 + chance(l->most) : l->most;
+}
+
+/* PROC and RRA: number and name are such as the kind of lawyer has, each there or not, and with no kind there is neither. */
+static void keep_lawyer(text_line *line)
+{
+    const lawyer *l = &lawyers[chance(LAWYERS)];
+    set_lawyer(line, l->kind, chance(4) ? l->digits : 0, sound_name(l));
+}
+
+int has_lawyer(unsigned kind)
+{
+    return kind == PROC || kind == RRA;
+}
+
 void sound_line(text_line *line, plain_edition edition, unsigned kind)
 {
     line->edition = edition;
@@ -105,6 +152,10 @@ void sound_line(text_line *line, plain_edition edition, unsigned kind)
         line->len += sound_field(&row, line->bytes + line->len);
         line->bytes[line->len++] = '|';
     }
+    if (kind == DECPF)
+        keep_conditions(line);
+    if (has_lawyer(kind))
+        keep_lawyer(line);
     set_end(line, "\r\n");
 }
 
@@ -203,22 +254,6 @@ static void blocks(declaration *d, unsigned kind, unsigned first, unsigned secon
     }
 }
 
-/* DECPF where field 8 is S: 9 and 10 are filled, 13 is empty, and 11 is S where 10 is 1. */
-static void keep_conditions(text_line *line)
-{
-    unsigned start, len;
-    uint8_t text[16];
-    find_field(line, 8, &start, &len);
-    if (line->bytes[start] != 'S')
-        return;
-    set_field(line, 9, text, some_date(text));
-    set_field(line, 10, chance(2) ? "1" : "2", 1);
-    set_field(line, 13, "", 0);
-    find_field(line, 10, &start, &len);
-    if (line->bytes[start] == '1')
-        set_field(line, 11, "S", 1);
-}
-
 /* The declarant's flags: SCP is S exactly when there is such a block, and PSE, which is left for later, is N. */
 static void keep_flags(declaration *d, text_line *declarant)
 {
@@ -237,8 +272,6 @@ void sound_declaration(declaration *d)
     add(d, DIRF);
     add(d, RESPO);
     text_line *line = add(d, d->declarant);
-    if (d->declarant == DECPF)
-        keep_conditions(line);
     codes(d, BPFDEC, BPJDEC);
     if (d->declarant == DECPJ) {
         blocks(d, FCI, BPFFCI, BPJFCI);

@@ -16,7 +16,29 @@ unsigned sound_identity(const plain_row *row, uint8_t *out);
 /* So many digits, the first no zero. */
 unsigned sound_digits(unsigned count, uint8_t *out);
 
-/* A line of one of the edition's base kinds with sound contents. */
+/* The field of DECPF that says whether the situation is a special one: its conditions hang on it. */
+enum { DECPF_SPECIAL = 8 };
+
+/* A lawyer, fields 4 to 6 of PROC and RRA: of each kind in field 4 its number's digits and the most bytes of its name. */
+enum { LAWYER_KIND = 4, LAWYER_NUMBER, LAWYER_NAME };
+enum { LAWYERS = 3, LONGEST_NAME = 150 };
+typedef struct {
+    const char *kind;
+    unsigned digits, most;
+} lawyer;
+extern const lawyer lawyers[LAWYERS];
+
+/* Whether a record has one. */
+int has_lawyer(unsigned kind);
+
+/* Puts a lawyer in, right or wrong: this kind, a number of 11 or 14 digits or, with 0, none, and a name of so many bytes, at most one more
+   than the longest. */
+void set_lawyer(text_line *line, const char *kind, unsigned digits, unsigned name);
+
+/* How long a name is that this one may have, 0 where it has none. */
+unsigned sound_name(const lawyer *l);
+
+/* A line of one of the edition's base kinds with sound contents, which keep the conditions of 19. */
 void sound_line(text_line *line, plain_edition edition, unsigned kind);
 
 /* An accepted declaration of some three to seventy lines, of either edition. */
