@@ -53,12 +53,16 @@ uint32_t decklesail_edition(const uint8_t *file, size_t file_len);
  *   17  no such date                                        its own field
  *   18  not one of the valid values                         its own field
  *   26  a check digit of a CPF or CNPJ is wrong             its own field
- *   19  a condition is broken                               field 9, 10, 11 or 13, the lowest
+ *   19  a condition is broken (below)                       field 5, 6, 9, 10, 11 or 13, the lowest
  *   21  a value record repeated under one beneficiary       field 1
  *   20  key not greater                                     field 2
  *    7  the table holds fewer entries than the line's number  field 0
  *
- * 13 to 18 and 26 run field by field, lowest field first, 26 after 18 of the same field; all fields before 19. */
+ * 13 to 18 and 26 run field by field, lowest field first, 26 after 18 of the same field; all fields before 19.
+ *
+ * 19 in DECPF, where field 8 is S: 9 or 10 is empty; 11 is not S although 10 is 1; 13 is filled. 19 in PROC and RRA: with 1 in field 4, the
+ * lawyer being a person, 5 is filled and no CPF, or 6 has over 60 bytes; with 2, a firm, 5 is filled and no CNPJ; with 4 empty, 5 or 6 is
+ * filled. */
 uint32_t decklesail_check_number(const uint8_t *file, size_t file_len, size_t room);
 
 /* The line of that answer, counted from 1: on acceptance the last line of the file, on refusal the line refused; number 1 names the
