@@ -1,9 +1,11 @@
 -- The tree: what is open, whose a record is, and what stood before it.
+pub mod Belongs
 pub mod Levels
 pub mod Parents
 pub mod History
 pub mod OpenRecords
 pub mod Opened
+pub mod Held
 pub mod LastOfKind
 pub mod Whose
 pub mod Slips

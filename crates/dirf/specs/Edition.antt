@@ -35,11 +35,12 @@ kindOf e s = kindIn (e .names) s
 unfoldable pub nameOf : Edition → ℕ → Text
 nameOf e k = lookup [] (e .names) k
 
--- the field rows of a kind
-unfoldable pub rowsIn : List (List ℕ × List Row) → ℕ → List Row
+-- what a table has for a kind, where several kinds share a row of it
+unfoldable pub rowsIn : {A : Type 0} → List (List ℕ × List A) → ℕ → List A
 rowsIn [] k = []
 rowsIn (g ∷ gs) k = if isIn k (g .0) then g .1 else rowsIn gs k
 
+-- the field rows of a kind
 unfoldable pub rowsOf : Edition → ℕ → List Row
 rowsOf e k = rowsIn (e .layout) k
 

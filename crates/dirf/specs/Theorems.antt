@@ -1,6 +1,7 @@
 -- What the definitions come to: statements only. Their proofs stand in proofs/.
 pub mod Plain
 pub mod Breach
+pub mod Belongs
 pub mod Sound
 pub mod Answered
 pub mod GoodSoFar

@@ -8,11 +8,11 @@ use native.Mathlib.Omega.{arith}
 use lib.Dec.{eqb}
 use borrow.Author.Tests.{ne-eqb}
 use Rattle.dirf.specs.Bytes.{Text}
-use Rattle.dirf.specs.Kinds.{values, standsOnce}
+use Rattle.dirf.specs.Kinds.{standsOnce}
 use Rattle.dirf.specs.Edition.{Edition}
 use Rattle.dirf.specs.Tree.{Rec, parentOf}
 use Rattle.dirf.specs.Tree.{mayStand}
-use Rattle.dirf.specs.Theorems.Sound.{level}
+use Rattle.dirf.specs.Theorems.Belongs.{level}
 use Rattle.dirf.specs.Lines.{fields, field}
 use Rattle.dirf.specs.Rules.{given, orElse}
 use Rattle.dirf.specs.Keys.{hasKey, keyOf, keyLess, lastUnder, isSome, notAfter}
@@ -21,8 +21,7 @@ use Rattle.dirf.proofs.tree.OpenRecords.{first-line}
 use Rattle.dirf.proofs.tree.Opened.{placed}
 use Rattle.dirf.proofs.tree.LastOfKind.{lastOf, ifUnder, last-by-kind}
 use Rattle.dirf.proofs.tests.Bools.{by-answer}
-use Rattle.dirf.proofs.tests.Says.{isIn-says}
-use Rattle.dirf.proofs.tree.Levels.{key-below, value-level}
+use Rattle.dirf.proofs.tree.Levels.{key-below, once-below}
 use Rattle.fields.specs.Places.{keyParts}
 use Rattle.fields.proofs.PlaceLaws.{key-of-cells}
 use Rattle.layout.specs.Tables.{kinds}
@@ -58,13 +57,11 @@ module _ {e : Edition} {below : List (List ℕ)} {text : Text} {st : State} {pas
       → lookFound text (lastIn past k) k p second third
       ≡ orElse (given 21 1 (standsOnce k && isSome (lastUnder before p k)))
       (given 20 2 (hasKey k && notAfter k cells (lastUnder before p k)))
-  unfolding lookFound repeatedOn keyOn standsOnce isSome notAfter
+  unfolding lookFound repeatedOn keyOn isSome notAfter
   look-same small second third cells x y =
       ap₂ (λ s t. orElse (given 21 1 s) (given 20 2 t))
       (by-answer (standsOnce k)
-      (λ t.
-      let deep = value-level (isIn-says k values .0 t) in
-      rw t (sym (and-true _) ∙ asked-same (λ _. true) isSome refl (λ r. refl) small (omega arith)))
+      (λ t. rw t (sym (and-true _) ∙ asked-same (λ _. true) isSome refl (λ r. refl) small (once-below k t)))
       (λ t. rw t))
       (by-answer (hasKey k)
       (λ t.

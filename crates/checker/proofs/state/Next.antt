@@ -11,7 +11,7 @@ use lib.ListN.{length, getD, set, length-set}
 use lib.Seq.{getD-set-same, getD-set-other}
 use borrow.Author.Tests.{eqb-true, eqb-false}
 use Rattle.dirf.specs.Bytes.{if_then_else_, Text}
-use Rattle.dirf.specs.Kinds.{isValue, opensNothing}
+use Rattle.dirf.specs.Kinds.{opensNothing}
 use Rattle.dirf.specs.Edition.{Edition}
 use Rattle.dirf.specs.Tree.{Rec, Open, opened, opening, declarant, place, parentOf}
 use Rattle.dirf.specs.Tree.{mayStand}
@@ -108,7 +108,7 @@ module _ {e : Edition} {below : List (List ℕ)} {text : Text} {st : State} {pas
       (3 ≤ length (r ∷ before) → SayBelow e (declarant (r ∷ before)) below)
       → Sums e below text (stateAfter st k (heldAt below st k) (length line))
       (pastAfter past k (above (st .path .lines) (heldAt below st k)) (st .at) (length line)) (r ∷ before)
-  unfolding stateAfter closed bytesOf opened parentOf isValue opensNothing declarantOf declarant opening
+  unfolding stateAfter closed bytesOf opened parentOf declarantOf declarant opening
   sums-next line there small say =
       let q : Placed e (declarant before) k before (suc (length before)) (opened before) (place e before k) =
       placed e (h .sound) (h .history) k in

@@ -9,21 +9,21 @@ use lib.Dec.{eqb, ltb}
 use lib.ListN.{length, getD, getD-replicate}
 use borrow.Author.Tests.{lt-ltb, le-ltb}
 use Rattle.dirf.specs.Bytes.{if_then_else_, Text, isIn}
-use Rattle.dirf.specs.Kinds.{FIMDirf, values, isValue}
+use Rattle.dirf.specs.Kinds.{FIMDirf}
 use Rattle.dirf.specs.Edition.{Edition}
 use Rattle.dirf.specs.Tree.{Rec, Open, opened, opening, declarant, mayHold, kindOfFirst, numberOfFirst, Place, placeIn, place, parentOf}
 use Rattle.dirf.specs.Tree.{inOrder, isPlaced, mayStand}
 use Rattle.dirf.specs.Order.{closed}
 use Rattle.dirf.specs.Check.{bytesOf}
-use Rattle.dirf.specs.Theorems.Sound.{level, Sound}
+use Rattle.dirf.specs.Theorems.Sound.{Sound}
 use Rattle.dirf.proofs.tree.History.{History, start}
 use Rattle.dirf.proofs.tree.Parents.{has-parent}
 use Rattle.dirf.proofs.tree.OpenRecords.{open-depth, Placed}
 use Rattle.dirf.proofs.tree.Opened.{placed, unheld}
 use Rattle.dirf.proofs.tree.LastOfKind.{lastOf}
 use Rattle.dirf.proofs.tests.Bools.{by-answer}
-use Rattle.dirf.proofs.tests.Says.{isIn-says, below-or}
-use Rattle.dirf.proofs.tree.Levels.{value-level, opens-level}
+use Rattle.dirf.proofs.tests.Says.{below-or}
+use Rattle.dirf.proofs.tree.Levels.{level-most}
 use Rattle.layout.specs.Tables.{kinds}
 use Rattle.layout.specs.LaidOut.{SayBelow}
 use Rattle.checker.specs.State.{deepest, startState, startPast, lastIn, above, heldIn, heldAt, orderAt, belowOn, standsOn, lastLine}
@@ -118,12 +118,6 @@ module _ (e : Edition) (d : ℕ) (below : List (List ℕ)) (say : SayBelow e d b
       (by-answer (mayHold e d (o .kind) (kindOfFirst os) k)
       (λ t. rw t (record { deep = refl; stack = s; inside = i }))
       (λ t. rw t outwards))
-
--- no kind stands lower than a value record
-level-most : (k : ℕ) → level k ≤ deepest
-unfolding isValue
-level-most k =
-    by-answer (isValue k) (λ t. omega (arith, value-level (isIn-says k values .0 t))) (λ t. omega (arith, opens-level k t))
 
 module _ {e : Edition} {below : List (List ℕ)} {text : Text} {st : State} {past : Past} {before : List Rec}
     (h : Sums e below text st past before) (k : ℕ) where

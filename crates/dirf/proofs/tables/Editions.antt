@@ -18,8 +18,9 @@ use Rattle.dirf.specs.LineWriter.{sum}
 use Rattle.dirf.specs.Tables.{Counted, count, largestOf}
 use Rattle.dirf.specs.Tree.{Rec, opening, mayStand}
 use Rattle.dirf.specs.Order.{kindOfLine}
-use Rattle.dirf.specs.Theorems.Sound.{level, rising, KeptAfter, Closable, Sound}
-use Rattle.dirf.proofs.tables.Tested.{nests, belowTest, tests, Tested, sound}
+use Rattle.dirf.specs.Theorems.Belongs.{belongs-opens}
+use Rattle.dirf.specs.Theorems.Sound.{rising, KeptAfter, Closable, Sound}
+use Rattle.dirf.proofs.tables.Tested.{belowTest, tests, Tested, sound}
 
 -- 73 kinds, 56 of them in the base, 561 field rows; in the older edition RTDS and ESDS with their 14 rows each are missing
 pub counted2025 : Counted edition2025 73 56 561 211
@@ -40,7 +41,7 @@ underDECPJ of2025 = underDECPJ2025
 underDECPJ of2022 = underDECPJ2022
 
 tested : (n : EditionName) → Tested (editionNamed n) (underDECPF n) (underDECPJ n)
-unfolding bytes-opens kinds-opens edition-opens sum count level rising nests belowTest tests editionNamed
+unfolding bytes-opens kinds-opens edition-opens belongs-opens sum count rising belowTest tests editionNamed
 tested of2025 = record { lists = refl; passed = refl; identified = refl }
 tested of2022 = record { lists = refl; passed = refl; identified = refl }
 

@@ -1,40 +1,31 @@
 -- An edition is sound by computed tests over its tables, and by four lines that close a file.
-use Prim.Native.Nat.{ℕ, zero, suc, _<_}
+use Prim.Native.Nat.{ℕ, zero, suc}
 use mathlib.Core.Path.{_≡_, refl, sym, _∙_}
 use mathlib.Core.Bool.{Bool, true, false, _&&_, _||_, not, true≢false}
-use mathlib.Core.Logic.{_⊎_, ⊎-elim}
+use mathlib.Core.Logic.{⊎-elim}
 use mathlib.Core.List.{List, [], _∷_, map}
-use lib.Dec.{eqb, ltb, leb}
+use lib.Dec.{eqb, leb}
 use lib.ListN.{length, getD}
 use borrow.Author.Tests.{leb-true}
 use Rattle.dirf.specs.Bytes.{if_then_else_, every, isIn, lookup}
 use Rattle.dirf.specs.Limits.{lineLimit}
-use Rattle.dirf.specs.Kinds.{DECPF, IDREC, SCP, declarants, blocks, withIDREC, belowSCP, isBeneficiary}
+use Rattle.dirf.specs.Kinds.{DECPF, isBeneficiary}
 use Rattle.dirf.specs.Row.{obligatory, identifier}
 use Rattle.dirf.specs.Below.{Children, byDeclarant}
 use Rattle.dirf.specs.Edition.{Edition, kindOf, rowsOf, isBase}
 use Rattle.dirf.specs.LineWriter.{sum}
 use Rattle.dirf.specs.Tables.{longest, goesWith, dateSized, RowsRight, sorts, kindsOf, count}
 use Rattle.dirf.specs.Theorems.Plain.{_∈_}
-use Rattle.dirf.specs.Theorems.Sound.{level, Nested, rising, firstOf, Closable, Sound}
+use Rattle.dirf.specs.Theorems.Belongs.{parentsOf}
+use Rattle.dirf.specs.Theorems.Sound.{rising, firstOf, Closable, Sound}
 use Rattle.dirf.proofs.tests.Bools.{and-left, and-right, or-cases, if-cases}
-use Rattle.dirf.proofs.tests.Says.{Says, says, isIn-says}
+use Rattle.dirf.proofs.tests.Says.{isIn-says}
 use Rattle.dirf.proofs.tests.Lists.{every-in}
 use Rattle.dirf.proofs.tables.Tables.{in-group, in-table}
 
--- what is asked of a record of kind k below one of kind h
-unfoldable pub nests : ℕ → ℕ → Bool
-nests h k =
-    ltb (level h) (level k)
-    && (if eqb (level k) 4 then eqb (level h) 3 else true)
-    && (if eqb (level k) 3 then eqb (level h) 2 else true)
-    && (if eqb h SCP then isIn k belowSCP else true)
-    && (if eqb k IDREC then isIn h withIDREC || isIn h declarants else true)
-    && (if isIn k blocks then isIn h declarants else true)
-
--- and of all that the lists have below one of kind h: they nest, and kind numbers rise, but below a beneficiary
+-- what is asked of all that the lists have below one of kind h: it may belong to it, and kind numbers rise, but below a beneficiary
 unfoldable pub belowTest : ℕ → List ℕ → Bool
-belowTest h ks = every (nests h) ks && (rising ks || isBeneficiary h)
+belowTest h ks = every (λ k. isIn h (parentsOf k)) ks && (rising ks || isBeneficiary h)
 
 -- every test of an edition with these two lists
 unfoldable pub tests : Edition → Children → Children → List Bool
@@ -66,22 +57,6 @@ nth-passed [] e i = refl
 nth-passed (t ∷ ts) e zero = and-left t (every (λ t. t) ts) e
 nth-passed (t ∷ ts) e (suc i) = nth-passed ts (and-right t (every (λ t. t) ts) e) i
 
-nested-of : (h k : ℕ) → nests h k ≡ true → Nested h k
-unfolding nests
-nested-of h k e =
-    let parts : Says (nests h k)
-    ((((((level h < level k) × (level k ≡ 4 → level h ≡ 3)) × (level k ≡ 3 → level h ≡ 2)) × (h ≡ SCP → k ∈ belowSCP))
-    × (k ≡ IDREC → (h ∈ withIDREC) ⊎ (h ∈ declarants))) × (k ∈ blocks → h ∈ declarants)) = search says depth 20 in
-    let n = parts .0 e in
-    record {
-      deeper = n .0 .0 .0 .0 .0;
-      of-beneficiary = n .0 .0 .0 .0 .1;
-      of-IDREC-or-SCP = n .0 .0 .0 .1;
-      of-SCP = n .0 .0 .1;
-      of-block-or-declarant = n .0 .1;
-      of-declarant = n .1;
-    }
-
 module _ {e : Edition} {pf pj : Children} (t : Tested e pf pj) where
   passes : (i : ℕ) → getD (tests e pf pj) i true ≡ true
   passes = nth-passed (tests e pf pj) (t .passed)
@@ -105,11 +80,12 @@ module _ {e : Edition} {pf pj : Children} (t : Tested e pf pj) where
       (if-cases (λ l. belowTest h (lookup [] l h) ≡ true) (eqb d DECPF) (λ _. in-table belowTest [] (λ h. refl) pf (passes 8) h)
       (λ _. in-table belowTest [] (λ h. refl) pj (passes 9) h))
 
-  nested : (d h k : ℕ) → isIn k (lookup [] (e .below d) h) ≡ true → Nested h k
+  nested : (d h k : ℕ) → isIn k (lookup [] (e .below d) h) ≡ true → h ∈ parentsOf k
   unfolding belowTest
   nested d h k m =
       let ks : List ℕ = lookup [] (e .below d) h in
-      nested-of h k (every-in (nests h) (isIn-says k ks .0 m) (and-left _ (rising ks || isBeneficiary h) (below-tested d h)))
+      isIn-says h (parentsOf k) .0
+      (every-in (λ k. isIn h (parentsOf k)) (isIn-says k ks .0 m) (and-left _ (rising ks || isBeneficiary h) (below-tested d h)))
 
   -- the order of kind numbers is the order of the lists, but below a beneficiary
   ordered : (d h : ℕ) → isBeneficiary h ≡ false → rising (lookup [] (e .below d) h) ≡ true
@@ -117,7 +93,7 @@ module _ {e : Edition} {pf pj : Children} (t : Tested e pf pj) where
   ordered d h other =
       let ks : List ℕ = lookup [] (e .below d) h in
       ⊎-elim (λ r. r) (λ b. absurd (true≢false (sym b ∙ other)))
-      (or-cases (rising ks) (isBeneficiary h) (and-right (every (nests h) ks) _ (below-tested d h)))
+      (or-cases (rising ks) (isBeneficiary h) (and-right (every (λ k. isIn h (parentsOf k)) ks) _ (below-tested d h)))
 
   pub sound : Closable e → Sound e
   unfolding tests

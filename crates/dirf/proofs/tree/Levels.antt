@@ -1,20 +1,19 @@
--- The level of a kind says what it is: value record, beneficiary, IDREC or SCP.
-use Prim.Native.Nat.{ℕ, _<_}
-use mathlib.Core.Path.{_≡_, refl, sym, ap, _∙_}
+-- How deep kinds stand: what opens, what stands alone, what has a key.
+use Prim.Native.Nat.{ℕ, _≤_, _<_}
+use mathlib.Core.Path.{_≡_, refl, sym, _∙_}
 use mathlib.Core.Bool.{true, false, _||_, true≢false, false≢true}
-use mathlib.Core.Logic.{_⊎_, inl, inr, ⊎-elim}
-use mathlib.Core.List.{List, [], _∷_, List·Memᴰ·cases-cons, List·Memᴰ·eq-of-singleton}
+use mathlib.Core.Logic.{⊎-elim}
+use mathlib.Core.List.{List, [], _∷_}
 use native.Mathlib.Omega.{arith}
-use lib.Dec.{eqb, ltb, leb}
+use lib.Dec.{eqb, ltb}
 use lib.ListN.{length}
-use borrow.Author.Tests.{eqb-true, ltb-true, leb-true}
+use borrow.Author.Tests.{eqb-true, ltb-true}
 use Rattle.dirf.specs.Bytes.{every, isIn, bytes-opens}
-use Rattle.dirf.specs.Kinds.{IDREC, FCI, PROC, RRA, SCP, alone, blocks, beneficiaries, values, isValue, isBeneficiary, isBlock}
-use Rattle.dirf.specs.Kinds.{kinds-opens}
+use Rattle.dirf.specs.Kinds.{IDREC, FCI, PROC, RRA, SCP, alone, beneficiaries, values, isValue, isBeneficiary, isBlock}
+use Rattle.dirf.specs.Kinds.{opensNothing, standsOnce, kinds-opens}
 use Rattle.dirf.specs.Keys.{keyFields, hasKey}
 use Rattle.dirf.specs.Theorems.Plain.{_∈_}
-use Rattle.dirf.specs.Theorems.Sound.{level}
-use Rattle.dirf.specs.Theorems.Whose.{BeneficiaryOrValue, Sort, a-block, an-IDREC, a-beneficiary, a-value-record}
+use Rattle.dirf.specs.Theorems.Belongs.{level}
 use Rattle.dirf.proofs.tests.Bools.{if-cases, or-cases}
 use Rattle.dirf.proofs.tests.Says.{isIn-says}
 use Rattle.dirf.proofs.tests.Lists.{every-in}
@@ -22,83 +21,40 @@ use Rattle.dirf.proofs.tests.Lists.{every-in}
 pub level-in : (l : ℕ) {k : ℕ} {ks : List ℕ} → every (λ k. eqb (level k) l) ks ≡ true → k ∈ ks → level k ≡ l
 level-in l {k} all m = eqb-true (level k) l (every-in (λ k. eqb (level k) l) m all)
 
-pub value-level : {k : ℕ} → k ∈ values → level k ≡ 4
-unfolding bytes-opens kinds-opens level
-value-level = level-in 4 refl
-
-pub beneficiary-level : {k : ℕ} → k ∈ beneficiaries → level k ≡ 3
-unfolding bytes-opens kinds-opens level
-beneficiary-level = level-in 3 refl
-
-level-cases : (P : ℕ → Type 0) (k : ℕ) → (isValue k ≡ true → P 4) → (isBeneficiary k ≡ true → P 3)
-    → (isIn k (IDREC ∷ SCP ∷ []) ≡ true → P 2) → (isBlock k ≡ true → P 1) → P 0 → P (level k)
-unfolding level
-level-cases P k value beneficiary holder block other =
-    if-cases P (isValue k) value (λ _.
-    if-cases P (isBeneficiary k) beneficiary (λ _.
-    if-cases P (isIn k (IDREC ∷ SCP ∷ [])) holder (λ _.
-    if-cases P (isBlock k) block (λ _. other))))
-
-pub opens-level : (k : ℕ) → isValue k ≡ false → level k < 4
-opens-level k opens =
-    level-cases (λ l. l < 4) k (λ v. absurd (true≢false (sym v ∙ opens)))
-    (λ _. omega arith) (λ _. omega arith) (λ _. omega arith) (omega arith)
-
-holder-cases : (k : ℕ) → isIn k (IDREC ∷ SCP ∷ []) ≡ true → (k ≡ IDREC) ⊎ (k ≡ SCP)
-holder-cases k h = ⊎-elim inl (λ m. inr (List·Memᴰ·eq-of-singleton m)) (List·Memᴰ·cases-cons (isIn-says k (IDREC ∷ SCP ∷ []) .0 h))
-
-pub is-holder : (k : ℕ) → level k ≡ 2 → (k ≡ IDREC) ⊎ (k ≡ SCP)
-is-holder k =
-    level-cases (λ l. l ≡ 2 → (k ≡ IDREC) ⊎ (k ≡ SCP)) k (λ _ l. absurd (omega arith)) (λ _ l. absurd (omega arith))
-    (λ h _. holder-cases k h)
-    (λ _ l. absurd (omega arith)) (λ l. absurd (omega arith))
-
-pub below-holder : (k : ℕ) → 2 < level k → BeneficiaryOrValue k
-unfolding isValue isBeneficiary
-below-holder k =
-    level-cases (λ l. 2 < l → BeneficiaryOrValue k) k
-    (λ v _. inr (isIn-says k values .0 v))
-    (λ b _. inl (isIn-says k beneficiaries .0 b))
-    (λ _ l. absurd (omega arith))
-    (λ _ l. absurd (omega arith))
-    (λ l. absurd (omega arith))
-
--- each kind that stands deeper than the declarant is a block, an IDREC, a beneficiary or a value record
-pub sort-below : (k : ℕ) → 0 < level k → Sort k
-unfolding isValue isBeneficiary isBlock blocks bytes-opens
-sort-below k =
-    level-cases (λ l. 0 < l → Sort k) k
-    (λ v _. a-value-record (isIn-says k values .0 v))
-    (λ b _. a-beneficiary (isIn-says k beneficiaries .0 b))
-    (λ h _. ⊎-elim an-IDREC (λ q. a-block (isIn-says k blocks .0 (ap (λ x. isIn x blocks) q))) (holder-cases k h))
-    (λ b _. a-block (isIn-says k blocks .0 b))
-    (λ l. absurd (omega arith))
-
-deeper-in : {k : ℕ} {ks : List ℕ} → k ∈ ks → every (λ k. ltb 0 (level k)) ks ≡ true → 0 < level k
-deeper-in {k} m all = ltb-true 0 (level k) (every-in (λ k. ltb 0 (level k)) m all)
-
-pub block-level : {k : ℕ} → k ∈ blocks → 0 < level k
-unfolding bytes-opens kinds-opens level
-block-level m = deeper-in m refl
-
 pub alone-level : {k : ℕ} → k ∈ alone → level k ≡ 0
 unfolding bytes-opens kinds-opens level
 alone-level = level-in 0 refl
 
--- the only block that stands deeper than FCI, PROC and RRA is SCP
-pub deep-block : {k : ℕ} → k ∈ blocks → 1 < level k → k ≡ SCP
-unfolding bytes-opens kinds-opens level
-deep-block {k} m deep =
-    ⊎-elim (eqb-true k SCP) (λ q. absurd (omega (arith, leb-true (level k) 1 q)))
-    (or-cases (eqb k SCP) (leb (level k) 1) (every-in (λ k. eqb k SCP || leb (level k) 1) m refl))
+-- no kind stands lower than one that opens nothing, and whatever opens stands higher
+levels : (k : ℕ) → (level k ≤ 4) × (opensNothing k ≡ false → level k < 4)
+unfolding level opensNothing isValue
+levels k =
+    if-cases Low (isValue k) (λ v. (omega arith, λ opens. absurd (true≢false (sym v ∙ opens)))) (λ _.
+    if-cases Low (isBeneficiary k) (λ _. low 3 (omega arith)) (λ _.
+    if-cases Low (isIn k (IDREC ∷ SCP ∷ [])) (λ _. low 2 (omega arith)) (λ _.
+    if-cases Low (isBlock k) (λ _. low 1 (omega arith)) (λ _. low 0 (omega arith)))))
+  where
+    Low : ℕ → Type 0
+    Low l = (l ≤ 4) × (opensNothing k ≡ false → l < 4)
 
-pub below-beneficiary : (k : ℕ) → 3 < level k → k ∈ values
-below-beneficiary k l = ⊎-elim (λ b. absurd (omega (arith, beneficiary-level b))) (λ v. v) (below-holder k (omega arith))
+    low : (l : ℕ) → l < 4 → Low l
+    low l h = (omega arith, λ _. h)
 
-pub is-beneficiary : (k : ℕ) → level k ≡ 3 → k ∈ beneficiaries
-is-beneficiary k l = ⊎-elim (λ b. b) (λ v. absurd (omega (arith, value-level v))) (below-holder k (omega arith))
+pub level-most : (k : ℕ) → level k ≤ 4
+level-most k = levels k .0
 
--- what has a key stands below the declarant
+pub opens-level : (k : ℕ) → opensNothing k ≡ false → level k < 4
+opens-level k = levels k .1
+
+deeper-in : {k : ℕ} {ks : List ℕ} → k ∈ ks → every (λ k. ltb 0 (level k)) ks ≡ true → 0 < level k
+deeper-in {k} m all = ltb-true 0 (level k) (every-in (λ k. ltb 0 (level k)) m all)
+
+-- what stands once stands below the declarant,
+pub once-below : (k : ℕ) → standsOnce k ≡ true → 0 < level k
+unfolding standsOnce bytes-opens kinds-opens level
+once-below k h = deeper-in (isIn-says k values .0 h) refl
+
+-- and so does what has a key
 pub key-below : (k : ℕ) → hasKey k ≡ true → 0 < level k
 unfolding hasKey keyFields isBeneficiary bytes-opens kinds-opens level
 key-below k =

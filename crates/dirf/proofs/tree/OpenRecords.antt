@@ -1,8 +1,8 @@
--- What is known of open records, innermost first: lines and levels fall outwards, every line read since one of them stands deeper
--- than it, and what opened before it under the same parent is of no later kind. One more record leaves it so, and so does a place.
+-- What is known of open records, innermost first: lines and levels fall outwards, every line read since one of them stands in its group,
+-- and no block before the open one is of a later kind. One more record leaves it so, and so does a place.
 use Prim.Native.Nat.{ℕ, suc, _≤_, _<_}
 use mathlib.Core.Path.{_≡_, refl, ap, _∙_}
-use mathlib.Core.Bool.{true, false}
+use mathlib.Core.Bool.{true}
 use mathlib.Core.List.{List, [], _∷_}
 use mathlib.Core.Option.{Option, none, some}
 use native.Mathlib.Nat.{le-trans}
@@ -10,32 +10,33 @@ use native.Mathlib.Omega.{arith}
 use lib.ListN.{length}
 use borrow.Author.Tests.{eq-eqb, ne-eqb, leb-true}
 use Rattle.dirf.specs.Bytes.{isIn, lookup}
-use Rattle.dirf.specs.Kinds.{isValue}
 use Rattle.dirf.specs.Edition.{Edition}
 use Rattle.dirf.specs.Tree.{Rec, Open, from, mayHold, kindOfFirst, numberOfFirst, Place, placeIn, inOrder}
 use Rattle.dirf.specs.Check.{entryOf, tableOf}
-use Rattle.dirf.specs.Theorems.Sound.{level, Nested, Sound}
+use Rattle.dirf.specs.Theorems.Plain.{_∈_}
+use Rattle.dirf.specs.Theorems.Belongs.{parentsOf, level}
+use Rattle.dirf.specs.Theorems.Sound.{Sound}
 use Rattle.dirf.specs.Theorems.Whose.{kindAt, parentAt}
 use Rattle.dirf.proofs.tests.Bools.{and-left, if-cases}
+use Rattle.dirf.proofs.tree.Belongs.{parent-deeper}
 use Rattle.dirf.proofs.tree.History.{entry-last, entry-earlier, line-cases}
 
--- so it is with the kind of each record that opened directly below line p (line 0 is none)
-abbrev pub EachBelow : List Rec → ℕ → (ℕ → Type 0) → Type 0
-EachBelow before p P =
-    (m : ℕ) → m ≤ length before → 0 < p → parentAt (tableOf before) m ≡ p → isValue (kindAt (tableOf before) m) ≡ false
-    → P (kindAt (tableOf before) m)
+-- so it is with the kind of each record directly below the declarant, which is line 3
+abbrev pub EachBlock : List Rec → (ℕ → Type 0) → Type 0
+EachBlock before P = (m : ℕ) → m ≤ length before → parentAt (tableOf before) m ≡ 3 → P (kindAt (tableOf before) m)
 
 -- what is known of an open record, given those further out
 pub record Known (before : List Rec) (o : Open) (outer : List Open) : Type 0 where
   pub line : (0 < o .number) × (o .number ≤ length before)
   pub kind : kindAt (tableOf before) (o .number) ≡ o .kind
   pub parent : parentAt (tableOf before) (o .number) ≡ numberOfFirst outer
-  pub since : (m : ℕ) → o .number < m → m ≤ length before → level (o .kind) < level (kindAt (tableOf before) m)
-  pub latest : EachBelow before (numberOfFirst outer) (λ k. k ≤ o .kind)
+  pub belongs : 0 < length outer → kindOfFirst outer ∈ parentsOf (o .kind)
+  pub since : (m : ℕ) → o .number < m → m ≤ length before → o .number ≤ parentAt (tableOf before) m
+  pub latest : numberOfFirst outer ≡ 3 → EachBlock before (λ k. k ≤ o .kind)
 
--- what is known of the record that is open below the first of these; where none is, nothing has opened yet
+-- what is known of the record that is open below the first of these; where none is, nothing has opened yet below the declarant
 abbrev pub Last : List Rec → Option Open → List Open → Type 0
-Last before none os = EachBelow before (numberOfFirst os) (λ k. ⊥)
+Last before none os = numberOfFirst os ≡ 3 → EachBlock before (λ k. ⊥)
 Last before (some o) os = Known before o os
 
 -- open records, innermost first, all of them above line n and level l
@@ -74,59 +75,58 @@ module _ {before : List Rec} where
   shallower w (none-open z) = none-open z
   shallower w (innermost a b k h) = innermost a (le-trans b w) k h
 
--- a kind in order behind the last is no earlier than any that opened there
+-- a kind in order behind the last block is no earlier than any block
 pub last-least : (before : List Rec) (c : Option Open) (os : List Open) (k : ℕ) → (0 < numberOfFirst os → inOrder c k ≡ true)
-    → Last before c os → EachBelow before (numberOfFirst os) (λ j. j ≤ k)
+    → Last before c os → numberOfFirst os ≡ 3 → EachBlock before (λ j. j ≤ k)
 unfolding inOrder
-last-least before none os k ordered none-yet m h z e v = absurd (none-yet m h z e v)
-last-least before (some x) os k ordered known m h z e v = le-trans (known .latest m h z e v) (leb-true (x .kind) k (ordered z))
+last-least before none os k ordered none-yet three m h e = absurd (none-yet three m h e)
+last-least before (some x) os k ordered known three m h e =
+    le-trans (known .latest three m h e) (leb-true (x .kind) k (ordered (omega arith)))
 
--- what one more record leaves open, if it stands deeper than all of that; and the record itself
+-- what one more record leaves open; and the record itself
 module _ (r : Rec) (before : List Rec) where
-  pub each-next : (P : ℕ → Type 0) (p : ℕ) → (0 < p → r .parent ≡ p → isValue (r .kind) ≡ false → P (r .kind)) → EachBelow before p P
-      → EachBelow (r ∷ before) p P
+  pub each-next : (P : ℕ → Type 0) → (r .parent ≡ 3 → P (r .kind)) → EachBlock before P → EachBlock (r ∷ before) P
   unfolding entryOf
-  each-next P p this earlier m h z =
-      line-cases
-      (λ m. parentAt (tableOf (r ∷ before)) m ≡ p → isValue (kindAt (tableOf (r ∷ before)) m) ≡ false → P (kindAt (tableOf (r ∷ before)) m))
-      (length before) m
-      (λ q. rw (entry-earlier r before m q, kindAt, parentAt) (earlier m q z))
-      (rw (entry-last r before, kindAt, parentAt) (this z))
-      h
+  each-next P this earlier m =
+      line-cases (λ m. parentAt (tableOf (r ∷ before)) m ≡ 3 → P (kindAt (tableOf (r ∷ before)) m)) (length before) m
+      (λ q. rw (entry-earlier r before m q, kindAt, parentAt) (earlier m q))
+      (rw (entry-last r before, kindAt, parentAt) this)
 
-  known-next : {o : Open} {outer : List Open} → level (o .kind) < level (r .kind) → numberOfFirst outer < r .parent
+  known-next : {o : Open} {outer : List Open} → o .number ≤ r .parent → numberOfFirst outer < o .number
       → Known before o outer → Known (r ∷ before) o outer
   unfolding entryOf
-  known-next {o} {outer} deeper inside k =
+  known-next {o} {outer} inside above k =
       record {
         line = (k .line .0, omega (arith, k .line .1));
         kind = ap (λ x. x .kind) (entry-earlier r before (o .number) (k .line .1)) ∙ k .kind;
         parent = ap (λ x. x .parent) (entry-earlier r before (o .number) (k .line .1)) ∙ k .parent;
+        belongs = k .belongs;
         since = λ m s.
-            line-cases (λ m. level (o .kind) < level (kindAt (tableOf (r ∷ before)) m)) (length before) m
-            (λ q. rw (entry-earlier r before m q, kindAt) (k .since m s q))
-            (rw (entry-last r before, kindAt) deeper);
-        latest = each-next (λ j. j ≤ o .kind) (numberOfFirst outer) (λ z e v. absurd (omega arith)) (k .latest);
+            line-cases (λ m. o .number ≤ parentAt (tableOf (r ∷ before)) m) (length before) m
+            (λ q. rw (entry-earlier r before m q, parentAt) (k .since m s q))
+            (rw (entry-last r before, parentAt) inside);
+        latest = λ three. each-next (λ j. j ≤ o .kind) (λ e. absurd (omega arith)) (k .latest three);
       }
 
-  pub open-next : {n l : ℕ} {os : List Open} → l ≤ level (r .kind) → numberOfFirst os ≤ r .parent → OpenRecords before n l os
-      → OpenRecords (r ∷ before) n l os
+  pub open-next : {n l : ℕ} {os : List Open} → numberOfFirst os ≤ r .parent → OpenRecords before n l os → OpenRecords (r ∷ before) n l os
   unfolding numberOfFirst
-  open-next deeper inside (none-open z) = none-open z
-  open-next deeper inside (innermost a b k h) =
+  open-next inside (none-open z) = none-open z
+  open-next inside (innermost a b k h) =
       let f = first-number h in
-      innermost a b (known-next (omega arith) (omega arith) k) (open-next (omega arith) (omega arith) h)
+      innermost a b (known-next inside f k) (open-next (omega arith) h)
 
-  pub known-last : {up : List Open} → r .parent ≡ numberOfFirst up → EachBelow before (numberOfFirst up) (λ j. j ≤ r .kind)
+  pub known-last : {up : List Open} → r .parent ≡ numberOfFirst up → (0 < length up → kindOfFirst up ∈ parentsOf (r .kind))
+      → (numberOfFirst up ≡ 3 → EachBlock before (λ j. j ≤ r .kind))
       → Known (r ∷ before) (record { number = suc (length before); kind = r .kind }) up
   unfolding entryOf
-  known-last {up} parent least =
+  known-last {up} parent belongs least =
       record {
         line = (omega arith, omega arith);
         kind = ap (λ x. x .kind) (entry-last r before);
         parent = ap (λ x. x .parent) (entry-last r before) ∙ parent;
+        belongs = belongs;
         since = λ m a b. absurd (omega arith);
-        latest = each-next (λ j. j ≤ r .kind) (numberOfFirst up) (λ z e v. omega arith) least;
+        latest = λ three. each-next (λ j. j ≤ r .kind) (λ e. omega arith) (least three);
       }
 
 module _ (e : Edition) (d k : ℕ) where
@@ -143,9 +143,14 @@ module _ (e : Edition) (d k : ℕ) where
     pub found : from (numberOfFirst (q .up)) os ≡ q .up
 
   module _ (sound : Sound e) where
-    pub nests : (h u : ℕ) → mayHold e d h u k ≡ true → Nested h k
+    pub holder-parent : (h u : ℕ) → mayHold e d h u k ≡ true → h ∈ parentsOf k
     unfolding mayHold
-    nests h u holds = sound .nested d h k (and-left (isIn k (lookup [] (e .below d) h)) _ holds)
+    holder-parent h u holds = sound .nested d h k (and-left (isIn k (lookup [] (e .below d) h)) _ holds)
+
+    pub holders-parent : (up : List Open) → Holder up → 0 < length up → kindOfFirst up ∈ parentsOf k
+    unfolding kindOfFirst
+    holders-parent [] holds one = absurd (omega arith)
+    holders-parent (o ∷ outer) holds one = holder-parent (o .kind) (kindOfFirst outer) holds
 
     pub placed-in : {before : List Rec} {n l : ℕ} {os : List Open} (c : Option Open) → Last before c os → OpenRecords before n l os
         → Placed before n os (placeIn e d c os k)
@@ -155,7 +160,7 @@ module _ (e : Edition) (d k : ℕ) where
         if-cases (Placed before n (o ∷ outer)) (mayHold e d (o .kind) (kindOfFirst outer) k)
         (λ holds.
         record {
-          known = innermost a (nests (o .kind) (kindOfFirst outer) holds .deeper) known h;
+          known = innermost a (parent-deeper (o .kind) k (holder-parent (o .kind) (kindOfFirst outer) holds)) known h;
           last = last;
           holder = holds;
           found = rw (eq-eqb (o .number) (o .number) refl);
@@ -169,23 +174,3 @@ module _ (e : Edition) (d k : ℕ) where
           holder = q .holder;
           found = rw (ne-eqb (numberOfFirst (placeIn e d (some o) outer k .up)) (o .number) (λ e. omega arith)) (q .found);
         })
-
-    -- a value record belongs to the innermost of open records, or to none: nothing outside a beneficiary holds one
-    module _ (deep : level k ≡ 4) where
-      none-holds : {before : List Rec} {n l : ℕ} {os : List Open} (c : Option Open) → OpenRecords before n l os → l ≤ 3
-          → placeIn e d c os k .up ≡ []
-      unfolding placeIn
-      none-holds c (none-open z) small = refl
-      none-holds c (innermost {o = o} {outer = outer} a b known h) small =
-          if-cases (λ (q : Place). q .up ≡ []) (mayHold e d (o .kind) (kindOfFirst outer) k)
-          (λ holds. absurd (omega (arith, nests (o .kind) (kindOfFirst outer) holds .of-beneficiary deep)))
-          (λ _. none-holds (some o) h (omega arith))
-
-      pub first-holds : {before : List Rec} {n l : ℕ} {os : List Open} (c : Option Open) → OpenRecords before n l os → l ≤ 4
-          → 0 < length (placeIn e d c os k .up) → placeIn e d c os k .up ≡ os
-      unfolding placeIn
-      first-holds c (none-open z) small = λ h. refl
-      first-holds c (innermost {o = o} {outer = outer} a b known rest) small =
-          if-cases (λ (q : Place). 0 < length (q .up) → q .up ≡ o ∷ outer) (mayHold e d (o .kind) (kindOfFirst outer) k)
-          (λ _ _. refl)
-          (λ _ h. absurd (omega (arith, ap length (none-holds (some o) rest (omega arith)))))

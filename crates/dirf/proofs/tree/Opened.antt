@@ -1,39 +1,41 @@
 -- The open records of every history, and the place of every record among them.
-use Prim.Native.Nat.{ℕ, suc, _≤_, _<_}
+use Prim.Native.Nat.{ℕ, suc, _-_, _≤_, _<_}
 use mathlib.Core.Path.{_≡_, refl, sym, ap, _∙_}
-use mathlib.Core.Bool.{true, true≢false}
+use mathlib.Core.Bool.{true}
 use mathlib.Core.List.{List, [], _∷_}
 use mathlib.Core.Option.{none}
 use native.Mathlib.Nat.{le-refl}
 use native.Mathlib.Omega.{arith}
 use lib.ListN.{length}
-use Rattle.dirf.specs.Kinds.{values, isValue, opensNothing}
+use Rattle.dirf.specs.Kinds.{opensNothing}
 use Rattle.dirf.specs.Edition.{Edition}
-use Rattle.dirf.specs.Tree.{Rec, Open, from, opened, declarant, numberOfFirst, place, parentOf, mayStand}
+use Rattle.dirf.specs.Tree.{Rec, Open, from, opened, opening, declarant, kindOfFirst, numberOfFirst, place, parentOf, mayStand}
 use Rattle.dirf.specs.Check.{entryOf, tableOf}
-use Rattle.dirf.specs.Theorems.Sound.{level, Sound}
-use Rattle.dirf.specs.Theorems.Whose.{parentAt}
+use Rattle.dirf.specs.Theorems.Belongs.{level}
+use Rattle.dirf.specs.Theorems.Sound.{Sound}
+use Rattle.dirf.specs.Theorems.Whose.{kindAt, parentAt}
 use Rattle.dirf.proofs.tests.Bools.{if-cases}
-use Rattle.dirf.proofs.tests.Says.{isIn-says}
-use Rattle.dirf.proofs.tree.Levels.{value-level, opens-level}
-use Rattle.dirf.proofs.tree.Parents.{has-parent}
+use Rattle.dirf.proofs.tests.Says.{below-or}
+use Rattle.dirf.proofs.tree.Belongs.{shut-below}
+use Rattle.dirf.proofs.tree.Levels.{level-most, opens-level}
+use Rattle.dirf.proofs.tree.Parents.{opening-level, has-parent}
 use Rattle.dirf.proofs.tree.History.{History, start, next, entry-last, entry-earlier, line-cases}
-use Rattle.dirf.proofs.tree.OpenRecords.{OpenRecords, none-open, innermost, EachBelow, first-number, wider, shallower, last-least}
-use Rattle.dirf.proofs.tree.OpenRecords.{each-next, open-next, known-last, Placed, placed-in, first-holds}
+use Rattle.dirf.proofs.tree.OpenRecords.{OpenRecords, none-open, innermost, EachBlock, first-number, first-kind, wider, shallower}
+use Rattle.dirf.proofs.tree.OpenRecords.{last-least, open-next, known-last, Holder, Placed, placed-in, holders-parent}
 
--- the open records; below the innermost nothing has opened, and no line's parent is still to come
+-- the open records; where only the declarant is open nothing stands below it; and every line's parent stands above it
 pub record OpenNow (before : List Rec) (os : List Open) : Type 0 where
   pub records : OpenRecords before (suc (length before)) 4 os
-  pub none-below : EachBelow before (numberOfFirst os) (λ k. ⊥)
-  pub parents : (m : ℕ) → m ≤ length before → parentAt (tableOf before) m ≤ length before
+  pub none-below : numberOfFirst os ≡ 3 → EachBlock before (λ k. ⊥)
+  pub parents : (m : ℕ) → m ≤ length before → parentAt (tableOf before) m ≤ m - 1
 
 parents-next : (r : Rec) (before : List Rec) → r .parent ≤ length before
-    → ((m : ℕ) → m ≤ length before → parentAt (tableOf before) m ≤ length before)
-    → (m : ℕ) → m ≤ suc (length before) → parentAt (tableOf (r ∷ before)) m ≤ length before
+    → ((m : ℕ) → m ≤ length before → parentAt (tableOf before) m ≤ m - 1)
+    → (m : ℕ) → m ≤ suc (length before) → parentAt (tableOf (r ∷ before)) m ≤ m - 1
 unfolding entryOf
 parents-next r before small parents m =
-    line-cases (λ m. parentAt (tableOf (r ∷ before)) m ≤ length before) (length before) m
-    (λ q. rw (entry-earlier r before m q, parentAt) (parents m q)) (rw (entry-last r before, parentAt) small)
+    line-cases (λ m. parentAt (tableOf (r ∷ before)) m ≤ m - 1) (length before) m
+    (λ q. rw (entry-earlier r before m q, parentAt) (parents m q)) (rw (entry-last r before, parentAt) (omega (arith, small)))
 
 -- what stands below a record is deeper than the declarant
 deep : {before : List Rec} {n l : ℕ} {up : List Open} → OpenRecords before n l up → 0 < numberOfFirst up → 0 < l
@@ -41,20 +43,38 @@ unfolding numberOfFirst
 deep (none-open z) h = absurd (omega arith)
 deep (innermost a b known rest) h = omega arith
 
+some-first : (up : List Open) → 0 < numberOfFirst up → 0 < length up
+unfolding numberOfFirst
+some-first [] h = absurd (omega arith)
+some-first (o ∷ outer) h = omega arith
+
 module _ (e : Edition) (sound : Sound e) where
-  value-first : {before : List Rec} → OpenRecords before (suc (length before)) 4 (opened before) → (k : ℕ) → isValue k ≡ true
-      → mayStand e before k ≡ true → place e before k .up ≡ opened before
-  unfolding place isValue
-  value-first {before} records k v stands =
-      let lowest : level k ≡ 4 = value-level (isIn-says k values .0 v) in
-      first-holds e (declarant before) k sound lowest none records (omega arith) (has-parent e before k (omega arith) stands .1)
+  -- line 3 is one of the opening lines
+  third-level : {before : List Rec} → History e before → 3 ≤ length before → level (kindAt (tableOf before) 3) ≡ 0
+  unfolding entryOf mayStand opening
+  third-level start few = absurd (omega arith)
+  third-level (next {r = r} {before = before} stands parent h) few =
+      below-or 3 (length before)
+      (λ less.
+      let two : length before ≡ 2 = omega arith in
+      ap (λ n. level (kindAt (tableOf (r ∷ before)) (suc n))) (sym two) ∙ ap (λ x. level (x .kind)) (entry-last r before)
+      ∙ opening-level (r .kind) 2 (rw two at stands))
+      (λ more. ap (λ x. level (x .kind)) (entry-earlier r before 3 more) ∙ third-level h more)
+
+  -- a record below which nothing stands is no block
+  no-block : {before : List Rec} → History e before → (k : ℕ) (up : List Open) → OpenRecords before (suc (length before)) (level k) up
+      → Holder e (declarant before) k up → opensNothing k ≡ true → numberOfFirst up ≡ 3 → ⊥
+  no-block {before} h k up known holds shut three =
+      let high = shut-below (kindOfFirst up) k (holders-parent e (declarant before) k sound up holds (some-first up (omega arith))) shut in
+      let kind : kindAt (tableOf before) 3 ≡ kindOfFirst up = ap (kindAt (tableOf before)) (sym three) ∙ first-kind known in
+      omega (arith, high, third-level h (omega (arith, first-number known)), ap level kind)
 
   pub open-now : {before : List Rec} → History e before → OpenNow before (opened before)
-  unfolding isValue opensNothing opened place parentOf tableOf numberOfFirst
+  unfolding opened place parentOf tableOf numberOfFirst
   open-now start =
       record {
         records = none-open {n = 1} (omega arith);
-        none-below = λ m h z. absurd (omega arith);
+        none-below = λ three. absurd (omega arith);
         parents = λ m h. let z : m ≡ 0 = omega arith in rw z (omega arith);
       }
   open-now (next {r = r} {before = before} stands parent h) =
@@ -68,21 +88,19 @@ module _ (e : Edition) (sound : Sound e) where
       (λ z. has-parent e before k (deep (q .known) z) stands .2) (q .last) in
       rw outer
       (if-cases (OpenNow (r ∷ before)) (opensNothing k)
-      (λ value.
-      let lowest : level k ≡ 4 = value-level (isIn-says k values .0 value) in
+      (λ shut.
       record {
-        records = shallower (omega arith) (wider (omega arith) (open-next r before (omega arith) (omega arith) (q .known)));
-        none-below = each-next r before (λ k. ⊥) _ (λ _ _ v. true≢false (sym value ∙ v))
-            (rw (value-first (now .records) k value stands) (now .none-below));
-        parents = λ m s. omega (arith, parents m s);
+        records = shallower (level-most k) (wider (omega arith) (open-next r before (omega arith) (q .known)));
+        none-below = λ three. absurd (no-block h k (place e before k .up) (q .known) (q .holder) shut three);
+        parents = parents;
       })
       (λ opens.
       record {
         records = innermost (le-refl (suc (suc (length before)))) (opens-level k opens)
-            (known-last r before parent least)
-            (open-next r before (omega arith) (omega arith) (q .known));
-        none-below = λ m s _ at. absurd (omega (arith, parents m s, at));
-        parents = λ m s. omega (arith, parents m s);
+            (known-last r before parent (holders-parent e (declarant before) k sound (place e before k .up) (q .holder)) least)
+            (open-next r before (omega arith) (q .known));
+        none-below = λ three m s at. absurd (omega (arith, parents m s, at));
+        parents = parents;
       }))
 
   pub open-records : {before : List Rec} → History e before → OpenRecords before (suc (length before)) 4 (opened before)
@@ -100,15 +118,3 @@ module _ (e : Edition) (sound : Sound e) where
       go : (up : List Open) → OpenRecords before (suc (length before)) (level k) up → up ≡ []
       go [] known = refl
       go (o ∷ outer) (innermost a b known rest) = absurd (flat (omega arith))
-
-  -- a value record that may stand belongs to the innermost open record,
-  pub value-place : {before : List Rec} → History e before → (k : ℕ) → isValue k ≡ true → mayStand e before k ≡ true
-      → place e before k .up ≡ opened before
-  value-place h = value-first (open-now h .records)
-
-  -- and closes nothing: to close what is open below the parent changes nothing in an edition whose value records all stand lowest
-  pub value-closes-nothing : {before : List Rec} (r : Rec) → History e before → isValue (r .kind) ≡ true
-      → mayStand e before (r .kind) ≡ true → r .parent ≡ parentOf e before (r .kind) → opened (r ∷ before) ≡ opened before
-  unfolding opened isValue opensNothing parentOf
-  value-closes-nothing {before} r h v stands parent =
-      rw v (ap (λ n. from n (opened before)) parent ∙ placed h (r .kind) .found ∙ value-place h (r .kind) v stands)

@@ -12,13 +12,13 @@ use Rattle.dirf.specs.Bytes.{every, isIn, bytes-opens}
 use Rattle.dirf.specs.Kinds.{FIMDirf, kinds-opens}
 use Rattle.dirf.specs.Edition.{Edition}
 use Rattle.dirf.specs.Tree.{Rec, opening, place, inOrder, isPlaced, mayStand}
-use Rattle.dirf.specs.Theorems.Sound.{level}
+use Rattle.dirf.specs.Theorems.Belongs.{level}
 use Rattle.dirf.proofs.tests.Bools.{and-left, and-right, or-cases, if-cases}
 use Rattle.dirf.proofs.tests.Says.{isIn-says}
 use Rattle.dirf.proofs.tests.Lists.{every-at}
 use Rattle.dirf.proofs.tree.Levels.{level-in}
 
-opening-level : (k n : ℕ) → isIn k (getD opening n []) ≡ true → level k ≡ 0
+pub opening-level : (k n : ℕ) → isIn k (getD opening n []) ≡ true → level k ≡ 0
 unfolding bytes-opens kinds-opens opening level
 opening-level k n i =
     level-in 0 (every-at (every (λ k. eqb (level k) 0)) opening n [] refl refl) (isIn-says k (getD opening n []) .0 i)

@@ -6,9 +6,11 @@ use mathlib.Core.Logic.{⊎-elim}
 use mathlib.Core.List.{List, [], _∷_}
 use native.Mathlib.Omega.{arith}
 use Rattle.dirf.specs.Bytes.{isIn, bytes-opens}
-use Rattle.dirf.specs.Kinds.{Dirf, RESPO, DECPJ, IDREC, BPFDEC, PROC, SCP, belowSCP, beneficiaries, values, kinds-opens}
+use Rattle.dirf.specs.Kinds.{Dirf, RESPO, DECPJ, IDREC, BPFDEC, PROC, SCP, alone, blocks, kinds-opens}
+use Rattle.dirf.specs.Edition.{edition-opens}
 use Rattle.dirf.specs.Check.{Entry}
 use Rattle.dirf.specs.Theorems.Plain.{_∈_}
+use Rattle.dirf.specs.Theorems.Belongs.{parentsOf, belongs-opens}
 use Rattle.dirf.specs.Theorems.Whose.{Owned}
 use Rattle.dirf.proofs.tests.Says.{isIn-says}
 
@@ -25,15 +27,13 @@ declarantsIDREC = of Dirf 0 ∷ of RESPO 0 ∷ of DECPJ 0 ∷ of PROC 3 ∷ of I
 
 pub not-the-declarants : Owned declarantsIDREC → ⊥
 unfolding bytes-opens kinds-opens
-not-the-declarants o =
-    ⊎-elim (λ q. omega arith) (⊎-elim (not-in PROC beneficiaries refl) (not-in PROC values refl))
-    (o .idrec 5 (omega arith, omega arith) refl .between 4 (omega arith) (omega arith))
+not-the-declarants o = o .no-block 5 (omega arith, omega arith) refl 4 (omega arith) (omega arith) (isIn-says PROC blocks .0 refl)
 
 -- a person of the declarant below an SCP
 abbrev pub personBelowSCP : List Entry
 personBelowSCP = of Dirf 0 ∷ of RESPO 0 ∷ of DECPJ 0 ∷ of SCP 3 ∷ of BPFDEC 4 ∷ []
 
 pub not-below-SCP : Owned personBelowSCP → ⊥
-unfolding bytes-opens kinds-opens
+unfolding bytes-opens kinds-opens edition-opens belongs-opens
 not-below-SCP o =
-    not-in BPFDEC belowSCP refl (o .beneficiary 5 (omega arith, omega arith) (isIn-says BPFDEC beneficiaries .0 refl) .own-SCP refl)
+    ⊎-elim (λ n. not-in BPFDEC alone refl (n .kind)) (λ b. not-in SCP (parentsOf BPFDEC) refl (b .to)) (o .line 5 (omega arith, omega arith))

@@ -1,0 +1,97 @@
+-- What the tables of parents and of groups say of every kind, each by one computed test over them.
+use Prim.Native.Nat.{ℕ, _<_}
+use mathlib.Core.Path.{_≡_, refl, sym, _∙_, subst}
+use mathlib.Core.Bool.{Bool, true, _&&_, _||_, not, or-true, true≢false}
+use mathlib.Core.Logic.{_⊎_, inl, inr, ⊎-elim}
+use native.Mathlib.Omega.{arith}
+use lib.Dec.{eqb, ltb}
+use borrow.Author.Tests.{eqb-true, ltb-true, not-true}
+use Rattle.dirf.specs.Bytes.{if_then_else_, every, isIn, bytes-opens}
+use Rattle.dirf.specs.Kinds.{IDREC, declarants, blocks, opensNothing, kinds-opens}
+use Rattle.dirf.specs.Edition.{edition-opens}
+use Rattle.dirf.specs.Theorems.Plain.{_∈_}
+use Rattle.dirf.specs.Theorems.Belongs.{parents, parentsOf, groups, groupOf, level, belongs-opens}
+use Rattle.dirf.proofs.tests.Bools.{or-cases}
+use Rattle.dirf.proofs.tests.Says.{Says, says, isIn-says}
+use Rattle.dirf.proofs.tests.Lists.{every-in}
+use Rattle.dirf.proofs.tables.Tables.{in-rows}
+
+-- what holds of each kind beside each of its parents
+pub of-parents : (test : ℕ → ℕ → Bool) → every (λ g. every (λ k. every (test k) (g .1)) (g .0)) parents ≡ true → (h k : ℕ)
+    → h ∈ parentsOf k → test k h ≡ true
+unfolding parentsOf every
+of-parents test all h k m = every-in (test k) m (in-rows (λ k. every (test k)) (λ k. refl) parents all k)
+
+module _ (h k : ℕ) where
+  pub parent-deeper : h ∈ parentsOf k → level h < level k
+  unfolding bytes-opens kinds-opens edition-opens belongs-opens
+  parent-deeper m = ltb-true (level h) (level k) (of-parents (λ k h. ltb (level h) (level k)) refl h k m)
+
+  -- a record stands in its parent's group,
+  pub parent-group : h ∈ parentsOf k → k ∈ groupOf h
+  unfolding bytes-opens kinds-opens edition-opens belongs-opens
+  parent-group m = isIn-says k (groupOf h) .0 (of-parents (λ k h. isIn k (groupOf h)) refl h k m)
+
+  -- and what stands in its own group does too
+  pub group-within : (j : ℕ) → k ∈ groupOf h → j ∈ groupOf k → j ∈ groupOf h
+  unfolding bytes-opens kinds-opens edition-opens belongs-opens
+  group-within j m n =
+      isIn-says j (groupOf h) .0
+      (every-in (λ j. isIn j (groupOf h)) n
+      (every-in (λ k. every (λ j. isIn j (groupOf h)) (groupOf k)) m
+      (in-rows (λ h ks. every (λ k. every (λ j. isIn j ks) (groupOf k)) ks) (λ h. refl) groups refl h)))
+
+  -- what opens nothing is not the declarant's
+  pub shut-below : h ∈ parentsOf k → opensNothing k ≡ true → 0 < level h
+  unfolding bytes-opens kinds-opens edition-opens belongs-opens
+  shut-below m shut =
+      ltb-true 0 (level h) (rw shut at (of-parents (λ k h. not (opensNothing k) || ltb 0 (level h)) refl h k m))
+
+  -- no two parents of a kind stand in one group, but those of an IDREC
+  pub parents-apart : (x : ℕ) → h ∈ parentsOf k → x ∈ parentsOf k → x ∈ groupOf h → k ≡ IDREC
+  unfolding bytes-opens kinds-opens edition-opens belongs-opens
+  parents-apart x m n inside =
+      ⊎-elim (eqb-true k IDREC)
+      (λ q.
+      let no = every-in (λ x. not (isIn x (groupOf h))) n (every-in (λ h. every (λ x. not (isIn x (groupOf h))) (parentsOf k)) m q) in
+      absurd (true≢false (sym (isIn-says x (groupOf h) .1 inside) ∙ not-true (isIn x (groupOf h)) no)))
+      (or-cases (eqb k IDREC) (every (λ h. every (λ x. not (isIn x (groupOf h))) (parentsOf k)) (parentsOf k))
+      (in-rows (λ k hs. eqb k IDREC || every (λ h. every (λ x. not (isIn x (groupOf h))) hs) hs) (λ k. or-true (eqb k IDREC)) parents refl k))
+
+  -- a block is the declarant's
+  pub block-parent : k ∈ blocks → h ∈ parentsOf k → h ∈ declarants
+  unfolding bytes-opens kinds-opens edition-opens belongs-opens
+  block-parent b m =
+      isIn-says h declarants .0
+      (every-in (λ h. isIn h declarants) m (every-in (λ k. every (λ h. isIn h declarants) (parentsOf k)) b refl))
+
+pub block-deep : {k : ℕ} → k ∈ blocks → 0 < level k
+unfolding bytes-opens kinds-opens level
+block-deep {k} m = ltb-true 0 (level k) (every-in (λ k. ltb 0 (level k)) m refl)
+
+-- of an IDREC: it stands below the declarant or a block, and before every block
+pub idrec-deep : (k : ℕ) → k ≡ IDREC → 0 < level k
+unfolding bytes-opens kinds-opens level
+idrec-deep k q = subst (λ k. 0 < level k) (sym q) (omega arith)
+
+pub later-block : {k : ℕ} → k ∈ blocks → IDREC < k
+unfolding bytes-opens kinds-opens
+later-block {k} m = ltb-true IDREC k (every-in (ltb IDREC) m refl)
+
+pub idrec-parent : (h k : ℕ) → k ≡ IDREC → h ∈ parentsOf k → (h ∈ declarants) ⊎ (h ∈ blocks)
+unfolding bytes-opens kinds-opens edition-opens belongs-opens
+idrec-parent h k q m =
+    ⊎-elim (λ d. inl (isIn-says h declarants .0 d)) (λ b. inr (isIn-says h blocks .0 b))
+    (or-cases (isIn h declarants) (isIn h blocks)
+    (every-in (λ h. isIn h declarants || isIn h blocks) (subst (λ k. h ∈ parentsOf k) q m) refl))
+
+-- where one of its parents stands in the group of another, that is the declarant and this a block
+pub idrec-apart : (h x k : ℕ) → k ≡ IDREC → h ∈ parentsOf k → x ∈ parentsOf k → x ∈ groupOf h → (h ∈ declarants) × (x ∈ blocks)
+unfolding bytes-opens kinds-opens edition-opens belongs-opens
+idrec-apart h x k q m n inside =
+    let both = every-in (λ x. if isIn x (groupOf h) then isIn h declarants && isIn x blocks else true) (subst (λ k. x ∈ parentsOf k) q n)
+    (every-in (λ h. every (λ x. if isIn x (groupOf h) then isIn h declarants && isIn x blocks else true) (parentsOf IDREC))
+    (subst (λ k. h ∈ parentsOf k) q m) refl) in
+    let here : Says (if isIn x (groupOf h) then isIn h declarants && isIn x blocks else true)
+    (x ∈ groupOf h → (h ∈ declarants) × (x ∈ blocks)) = search says in
+    here .0 both inside
