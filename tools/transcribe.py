@@ -40,7 +40,7 @@ BLOCKS_WITH_IDREC = {'FCI', 'PROC', 'RRA'}
 BLOCKS_WITHOUT_BENEFICIARY = {'VPEIM', 'PSE', 'RPDE'}
 BENEFICIARY = ('BPF', 'BPJ')
 HOLDERS = {'INFPC', 'INFPA'}  # records that hold others below a beneficiary
-LATER_ROOTS = {'VPEIM', 'INFPC', 'INFPA', 'PSE', 'RPDE', 'INF'}  # document 01
+LATER_ROOTS = {'VPEIM', 'RPDE', 'INF'}  # document 01, and 02's A3
 
 FORMAT = {'C': 'C', '\u0421': 'C', 'N': 'N', 'D': 'D'}  # U+0421: Cyrillic
 FILL = {'Fixo': 'fixed', 'Variável': 'variable'}

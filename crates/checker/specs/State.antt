@@ -3,25 +3,22 @@
 use Prim.Native.Nat.{ℕ, zero, suc, _+_, _*_, _≤_, _<_}
 use mathlib.Core.Bool.{Bool, true, false, _&&_, _||_, not}
 use mathlib.Core.List.{List, []}
-use lib.Dec.{eqb, ltb, leb}
+use lib.Dec.{eqb, ltb}
 use lib.ListN.{length, getD, set, replicate}
 use Rattle.dirf.specs.Bytes.{if_then_else_, Text, isIn}
 use Rattle.dirf.specs.Limits.{lineLimit, linesLimit}
 use Rattle.dirf.specs.Kinds.{FIMDirf, isLater, opensNothing, standsOnce}
 use Rattle.dirf.specs.Lines.{fields}
 use Rattle.dirf.specs.Rules.{Found, given, orElse}
-use Rattle.dirf.specs.Tree.{opening}
+use Rattle.dirf.specs.Tree.{opening, mayFollow}
 use Rattle.dirf.specs.Keys.{hasKey, keyOf, keyLess}
+use Rattle.dirf.specs.Theorems.Belongs.{deepest}
 use Rattle.fields.specs.Places.{partOf, keyParts}
 use Rattle.layout.specs.Tables.{kinds, holdsIn}
 use Rattle.checker.specs.declared.state.Path.{Path}
 use Rattle.checker.specs.declared.state.Past.{Past}
 use Rattle.checker.specs.declared.state.Last.{Last}
 use Rattle.checker.specs.declared.state.State.{State}
-
--- how deep open records can stand: the declarant, a block, an IDREC, a beneficiary
-abbrev pub deepest : ℕ
-deepest = 4
 
 unfoldable pub startState : State
 startState =
@@ -56,7 +53,7 @@ heldAt below st k = if ltb (st .count) (length opening) then 0 else heldIn below
 
 -- not before the one that opened last there
 unfoldable pub orderAt : Path → ℕ → ℕ → Bool
-orderAt p k d = if ltb d (p .depth) then leb (getD (p .kinds) d 0) k else true
+orderAt p k d = if ltb d (p .depth) then mayFollow (getD (p .kinds) d 0) k else true
 
 -- from line 4 on
 unfoldable pub belowOn : Path → ℕ → ℕ → Bool

@@ -10,12 +10,13 @@ use Rattle.dirf.specs.Edition.{Edition, kindOf}
 use Rattle.dirf.specs.Lines.{clean}
 use Rattle.dirf.specs.FieldReader.{fieldOf}
 use Rattle.dirf.specs.Rules.{Found, keeps, breaks, given, orElse}
+use Rattle.dirf.specs.Theorems.Belongs.{deepest}
 use Rattle.fields.specs.Places.{partOf, placesOf, cellAt, cellsAt}
 use Rattle.fields.specs.declared.Places.{Places}
 use Rattle.layout.specs.Tables.{kinds, countIn, rowsIn}
 use Rattle.rules.specs.Findings.{contentsFound}
 use Rattle.checker.specs.Lines.{numberAt}
-use Rattle.checker.specs.State.{deepest, above, heldAt, placeFound, lookFound, Safe}
+use Rattle.checker.specs.State.{above, heldAt, placeFound, lookFound, Safe}
 use Rattle.checker.specs.declared.Answer.{Answer}
 use Rattle.checker.specs.declared.state.Last.{Last}
 use Rattle.checker.specs.declared.state.State.{State}

@@ -6,12 +6,13 @@ use rules::Finding;
 ghost use mathlib.Core.Path.{_≡_};
 ghost use Prim.Native.Nat.{_≤_};
 ghost use Rattle.dirf.specs.Limits.{lineLimit};
+ghost use Rattle.dirf.specs.Theorems.Belongs.{deepest};
 ghost use Rattle.rules.specs.Findings.{findingOf};
-ghost use Rattle.checker.specs.State.{deepest, startState, above as aboveOf, heldIn, heldAt, orderAt, belowOn, standsOn, placeFound};
+ghost use Rattle.checker.specs.State.{startState, above as aboveOf, heldIn, heldAt, orderAt, belowOn, standsOn, placeFound};
 ghost use Rattle.checker.specs.State.{startPast, repeatedOn, keyOn, lookFound, declarantOf, pathAfter, Safe, stateAfter};
 
-// How deep records stand open: the declarant, a block, an IDREC, a beneficiary.
-pub(crate) const DEPTH: usize = 4;
+// How deep records stand open: the declarant, a block, an IDREC, a beneficiary, an INFPC or INFPA.
+pub(crate) const DEPTH: usize = 5;
 
 // Document 01: "Lines 1, 2, 3 are Dirf, RESPO and one of DECPF or DECPJ."
 const OPENING_LINES: u32 = 3;
@@ -115,13 +116,18 @@ pub(crate) fn held_at(below: &[[u8; KINDS]; HOLDERS], st: State, k: u32) -> usiz
     held_in(below, st.declarant, path, k)
 }
 
-// Not before the record that opened last there.
+// Not before the record that opened last there: after an INFPC or INFPA any, after a PSE none.
 fn order_at(path: Path, k: u32, d: usize) -> bool
     requires { ⌜ path .depth ≤ deepest ⌝ }
     ensures { λ r. ⌜ r ≡ orderAt path k d ⌝ }
 {
     if d < path.depth {
-        return path.kinds[d] <= k;
+        let last = path.kinds[d];
+        return match last {
+            20 | 29 => true,
+            63 => false,
+            _ => last <= k,
+        };
     }
     true
 }

@@ -1,6 +1,6 @@
 -- The tree: what is open, whose a record is, and what stood before it.
-pub mod Belongs
 pub mod Levels
+pub mod Belongs
 pub mod Parents
 pub mod History
 pub mod OpenRecords

@@ -6,24 +6,34 @@ use mathlib.Core.Option.{Option, none, some}
 use lib.Dec.{eqb, ltb}
 use lib.ListN.{length}
 use Rattle.dirf.specs.Bytes.{if_then_else_, Text, isIn, same, less}
-use Rattle.dirf.specs.Kinds.{IDREC, FCI, PROC, RRA, SCP, isBeneficiary}
+use Rattle.dirf.specs.Kinds.{IDREC, INFPC, INFPA, FCI, PROC, RRA, SCP, OPSE, TPSE, RTPSE, DTPSE, RDTPSE, reimbursements}
+use Rattle.dirf.specs.Kinds.{isBeneficiary}
 use Rattle.dirf.specs.Lines.{fields, field}
 use Rattle.dirf.specs.Tree.{Rec}
 
--- 01, "Order": "Keys: CPF or CNPJ for beneficiaries and SCP, fields 2 then 3 for PROC and RRA, the code for IDREC, the CNPJ for
--- FCI." The numbers of the key's fields; a kind without a key has none.
+-- 01, "Order": "Keys: .. fields 2 then 3 for PROC and RRA"; 000, 3.18 and 3.30: CPF and date of birth for INFPA and DTPSE
+abbrev pub byTwoFields : List ℕ
+byTwoFields = PROC ∷ RRA ∷ INFPA ∷ DTPSE ∷ []
+
+-- "CPF or CNPJ for .. SCP, .. the code for IDREC, the CNPJ for FCI"; 000, 3.17 and 3.27 to 3.31: the CNPJ for INFPC and OPSE, the CPF for
+-- TPSE, the number of who was paid for RTPSE and RDTPSE. All of these are field 2
+abbrev pub byOneField : List ℕ
+byOneField = IDREC ∷ FCI ∷ SCP ∷ INFPC ∷ OPSE ∷ TPSE ∷ RTPSE ∷ RDTPSE ∷ []
+
+-- The numbers of the key's fields; "CPF or CNPJ for beneficiaries". A kind without a key has none.
 unfoldable pub keyFields : ℕ → List ℕ
-keyFields k =
-    if isIn k (PROC ∷ RRA ∷ []) then 2 ∷ 3 ∷ []
-    else if isIn k (IDREC ∷ FCI ∷ SCP ∷ []) || isBeneficiary k then 2 ∷ []
-    else []
+keyFields k = if isIn k byTwoFields then 2 ∷ 3 ∷ [] else if isIn k byOneField || isBeneficiary k then 2 ∷ [] else []
 
 unfoldable pub hasKey : ℕ → Bool
 hasKey k = ltb 0 (length (keyFields k))
 
+-- 000, 3.29 and 3.31: "primeiro os CPF e depois os CNPJ": first how many digits a number has, then the number
+unfoldable pub fewerDigitsFirst : Text → List Text
+fewerDigitsFirst s = (length s ∷ []) ∷ s ∷ []
+
 -- the key of a record of kind k with these fields
 unfoldable pub keyOf : ℕ → List Text → List Text
-keyOf k cells = map (λ f. field f cells) (keyFields k)
+keyOf k cells = if isIn k reimbursements then fewerDigitsFirst (field 2 cells) else map (λ f. field f cells) (keyFields k)
 
 -- one key is smaller than another: at the first field in which they differ
 unfoldable pub keyLess : List Text → List Text → Bool
@@ -48,5 +58,5 @@ notAfter k cells (some r) = not (keyLess (keyOf k (fields (r .line))) (keyOf k c
 
 -- to compute with this file: `unfolding keys-opens`
 unfoldable pub keys-opens : Unit {0}
-unfolding keyFields hasKey keyOf keyLess lastUnder isSome notAfter
+unfolding keyFields hasKey fewerDigitsFirst keyOf keyLess lastUnder isSome notAfter
 keys-opens = tt

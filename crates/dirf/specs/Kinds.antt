@@ -1,6 +1,6 @@
 -- The 73 kinds of record: their numbers, their identifiers, and what each is.
 use Prim.Native.Nat.{ℕ}
-use mathlib.Core.Bool.{Bool}
+use mathlib.Core.Bool.{Bool, _||_}
 use mathlib.Core.List.{List, [], _∷_}
 use Rattle.dirf.specs.Bytes.{Text, bytes, isIn}
 
@@ -318,16 +318,10 @@ names2025 = upToRTDP ((RTDS, bytes "RTDS") ∷ upToESDP ((ESDS, bytes "ESDS") �
 abbrev pub names2022 : List (ℕ × Text)
 names2022 = upToRTDP (upToESDP fromESIR)
 
--- 01, "What the checker covers": "Left for later: VPEIM, INFPC, INFPA, PSE, RPDE, INF and all records that stand only below these."
+-- 01, "What the checker covers": "Left for later: .. and all records that stand only below these." 02, A3: "10 remains for VPEIM, RPDE
+-- and INF."
 unfoldable pub later : List ℕ
-later =
-    INFPC ∷ RTEP ∷ ESEP ∷
-    INFPA ∷
-    VPEIM ∷ RIMUN ∷ RISEN ∷
-    PSE ∷ OPSE ∷ TPSE ∷ RTPSE ∷ DTPSE ∷ RDTPSE ∷
-    RPDE ∷ BRPDE ∷ VRPDE ∷
-    INF ∷
-    []
+later = VPEIM ∷ RIMUN ∷ RISEN ∷ RPDE ∷ BRPDE ∷ VRPDE ∷ INF ∷ []
 
 -- 01, "The tree": "one of DECPF or DECPJ"
 abbrev pub declarants : List ℕ
@@ -337,9 +331,9 @@ declarants = DECPF ∷ DECPJ ∷ []
 abbrev pub alone : List ℕ
 alone = Dirf ∷ RESPO ∷ DECPF ∷ DECPJ ∷ FIMDirf ∷ []
 
--- 01, "The tree": "FCI, PROC, RRA, SCP", the blocks that open below the declarant beside IDREC
+-- 01, "The tree": "FCI, PROC, RRA, SCP", the blocks that open below the declarant beside IDREC; 02, A3: "and the PSE block after SCP"
 unfoldable pub blocks : List ℕ
-blocks = FCI ∷ PROC ∷ RRA ∷ SCP ∷ []
+blocks = FCI ∷ PROC ∷ RRA ∷ SCP ∷ PSE ∷ []
 
 -- 01, "The tree": "IDREC belongs to the open FCI, PROC or RRA"; "Below SCP: BPFSCP then BPJSCP, no IDREC"
 abbrev pub withIDREC : List ℕ
@@ -352,14 +346,27 @@ belowSCP = BPFSCP ∷ BPJSCP ∷ []
 unfoldable pub beneficiaries : List ℕ
 beneficiaries = BPFDEC ∷ BPJDEC ∷ BPFFCI ∷ BPJFCI ∷ BPFPROC ∷ BPJPROC ∷ BPFRRA ∷ BPFSCP ∷ BPJSCP ∷ []
 
--- 01, "What the checker covers": "the value records that the structure lists put directly under a beneficiary"
+-- 02, A3: "INFPC and INFPA below the beneficiaries", private pension and alimony, "with their value records"
+unfoldable pub pensions : List ℕ
+pensions = INFPC ∷ INFPA ∷ []
+
+-- 01, "What the checker covers": "the value records that the structure lists put directly under a beneficiary"; 02, A3: those of INFPC
+-- and INFPA
 unfoldable pub values : List ℕ
 values =
     RTRT ∷ RTPO ∷ RTDP ∷ RTDS ∷ RTIRF ∷ CJAC ∷ CJAA ∷ ESRT ∷ ESPO ∷ ESDP ∷ ESDS ∷ ESIR ∷ ESDJ ∷
-    RTPP ∷ RTFA ∷ RTSP ∷ ESPP ∷ ESFA ∷ ESSP ∷ RTPA ∷ ESPA ∷
+    RTPP ∷ RTFA ∷ RTSP ∷ RTEP ∷ ESPP ∷ ESFA ∷ ESSP ∷ ESEP ∷ RTPA ∷ ESPA ∷
     RIDAC ∷ RIIRP ∷ RIAP ∷ RIMOG ∷ RIP65 ∷ RIBMR ∷ RICAP ∷ RIRPC ∷ RIL96 ∷ RIPTS ∷ RIJMRE ∷ RIO ∷
     RIRSR ∷ DAJUD ∷ QTMESES ∷ RISCP ∷
     []
+
+-- 02, A3: "PSE, OPSE, TPSE, its RTPSE, then DTPSE, and RDTPSE below DTPSE": the operators, holders and dependants of a health plan, and
+-- the reimbursements, which are value records with a key
+unfoldable pub plan : List ℕ
+plan = OPSE ∷ TPSE ∷ DTPSE ∷ []
+
+unfoldable pub reimbursements : List ℕ
+reimbursements = RTPSE ∷ RDTPSE ∷ []
 
 unfoldable pub isLater : ℕ → Bool
 isLater k = isIn k later
@@ -370,18 +377,15 @@ isBlock k = isIn k blocks
 unfoldable pub isBeneficiary : ℕ → Bool
 isBeneficiary k = isIn k beneficiaries
 
-unfoldable pub isValue : ℕ → Bool
-isValue k = isIn k values
-
--- Two questions that the base answers alike. Does nothing ever stand below a record of this kind? In the base, below a value record.
-unfoldable pub opensNothing : ℕ → Bool
-opensNothing k = isIn k values
-
--- 01, "The tree": "each at most once, in any order". Does a kind stand at most once under its parent? In the base, a value record.
+-- 02, A3: "A value record with no key stands at most once under its own parent."
 unfoldable pub standsOnce : ℕ → Bool
 standsOnce k = isIn k values
 
+-- Does nothing ever stand below a record of this kind? Below a value record, with a key or without.
+unfoldable pub opensNothing : ℕ → Bool
+opensNothing k = isIn k values || isIn k reimbursements
+
 -- to compute with this file: `unfolding kinds-opens`
 unfoldable pub kinds-opens : Unit {0}
-unfolding later blocks beneficiaries values isLater isBlock isBeneficiary isValue opensNothing standsOnce
+unfolding later blocks beneficiaries pensions values plan reimbursements isLater isBlock isBeneficiary standsOnce opensNothing
 kinds-opens = tt

@@ -1,17 +1,17 @@
--- The field rows of the records of the base, in the sources' order and grouped as the sources group them: in the edition of 2025 56
--- records with 561 rows, in the older one 54 with 533. Of 2025 3.1 to 3.3 are 004's, all others 000's; of the older edition all are
+-- The field rows of the records of the base, in the sources' order and grouped as the sources group them: in the edition of 2025 66
+-- records with 622 rows, in the older one 64 with 594. Of 2025 3.1 to 3.3 are 004's, all others 000's; of the older edition all are
 -- 000's, and but for 3.1 they are the same rows. Beside each row stand its number and its name in the source.
 use Prim.Native.Nat.{ℕ}
 use mathlib.Core.List.{List, [], _∷_}
 use lib.ListN.{replicate}
 use Rattle.dirf.specs.Bytes.{Text, bytes}
-use Rattle.dirf.specs.Row.{Row, row, C, N, D, fixed, variable, obligatory, optional, identifier, amount, months, ddd}
+use Rattle.dirf.specs.Row.{Row, Holds, row, C, N, D, fixed, variable, obligatory, optional, identifier, amount, months, ddd}
 use Rattle.dirf.specs.Row.{telephone, cpf, cnpj, cpfOrCnpj, plain, oneOf, sOrN}
 use Rattle.dirf.specs.Kinds.{Dirf, RESPO, DECPF, DECPJ, IDREC, BPFDEC, RTRT, RTPO, RTDP, RTDS, RTIRF, CJAC, CJAA, ESRT}
-use Rattle.dirf.specs.Kinds.{ESPO, ESDP, ESDS, ESIR, ESDJ, RTPP, RTFA, RTSP, ESPP, ESFA, ESSP, RTPA, ESPA, RIDAC, RIIRP}
-use Rattle.dirf.specs.Kinds.{RIAP, RIMOG, RIP65, RIBMR, RICAP, RIRPC, RIL96, RIPTS, RIJMRE, RIO, BPJDEC, FCI, BPFFCI}
-use Rattle.dirf.specs.Kinds.{BPJFCI, PROC, BPFPROC, RIRSR, BPJPROC, RRA, BPFRRA, DAJUD, QTMESES, SCP, BPFSCP, RISCP, BPJSCP}
-use Rattle.dirf.specs.Kinds.{FIMDirf}
+use Rattle.dirf.specs.Kinds.{ESPO, ESDP, ESDS, ESIR, ESDJ, INFPC, RTPP, RTFA, RTSP, RTEP, ESPP, ESFA, ESSP, ESEP, INFPA, RTPA}
+use Rattle.dirf.specs.Kinds.{ESPA, RIDAC, RIIRP, RIAP, RIMOG, RIP65, RIBMR, RICAP, RIRPC, RIL96, RIPTS, RIJMRE, RIO, BPJDEC}
+use Rattle.dirf.specs.Kinds.{FCI, BPFFCI, BPJFCI, PROC, BPFPROC, RIRSR, BPJPROC, RRA, BPFRRA, DAJUD, QTMESES, SCP, BPFSCP}
+use Rattle.dirf.specs.Kinds.{RISCP, BPJSCP, PSE, OPSE, TPSE, RTPSE, DTPSE, RDTPSE, FIMDirf}
 
 -- 004, 3.1, and 01, "Fields": "Dirf: fields 2, 3 and 6 are 2025, 2024 and R6GP3ZA; field 4 is S or N; field 5 may be empty."
 abbrev pub dirfRows2025 : List Row
@@ -194,6 +194,28 @@ bpfrraRows =
     row C fixed 1 obligatory sOrN ∷  -- 6 Indicador de identificação do alimentando
     []
 
+-- 000, 3.17
+abbrev pub infpcRows : List Row
+infpcRows =
+    row C fixed 5 obligatory identifier ∷  -- 1 Identificador de registro
+    row N fixed 14 obligatory cnpj ∷  -- 2 CNPJ
+    row C variable 150 obligatory plain ∷  -- 3 Nome empresarial
+    []
+
+-- 000, 3.18 and 3.30, "Relação de dependência"
+abbrev pub relation : Holds
+relation = oneOf (bytes "03" ∷ bytes "04" ∷ bytes "06" ∷ bytes "08" ∷ bytes "10" ∷ [])
+
+-- 000, 3.18
+abbrev pub infpaRows : List Row
+infpaRows =
+    row C fixed 5 obligatory identifier ∷  -- 1 Identificador de registro
+    row N fixed 11 optional cpf ∷  -- 2 CPF do alimentando
+    row D fixed 8 optional plain ∷  -- 3 Data de nascimento
+    row C variable 60 obligatory plain ∷  -- 4 Nome
+    row N fixed 2 optional relation ∷  -- 5 Relação de dependência
+    []
+
 -- 000, 3.19: fields 2 to 13 are the months, field 14 the thirteenth salary
 abbrev pub monthlyRows : List Row
 monthlyRows =
@@ -247,6 +269,51 @@ bpjscpRows =
     row C variable 4 optional plain ∷  -- 4 Percentual de participação na SCP
     []
 
+-- 000, 3.26
+abbrev pub pseRows : List Row
+pseRows =
+    row C fixed 3 obligatory identifier ∷  -- 1 Identificador de registro
+    []
+
+-- 000, 3.27
+abbrev pub opseRows : List Row
+opseRows =
+    row C fixed 4 obligatory identifier ∷  -- 1 Identificador de registro
+    row N fixed 14 obligatory cnpj ∷  -- 2 CNPJ da operadora de plano privado de assistência à saúde
+    row C variable 150 obligatory plain ∷  -- 3 Nome empresarial
+    row N fixed 6 optional plain ∷  -- 4 Registro ANS
+    []
+
+-- 000, 3.28; the table says Sim of field 4, and the prose that would excuse it is not checked
+abbrev pub tpseRows : List Row
+tpseRows =
+    row C fixed 4 obligatory identifier ∷  -- 1 Identificador de registro
+    row N fixed 11 obligatory cpf ∷  -- 2 CPF do titular
+    row C variable 60 obligatory plain ∷  -- 3 Nome
+    row N variable 9 obligatory amount ∷  -- 4 Valor pago no ano
+    []
+
+-- 000, 3.29 and 3.31, which differ in the identifier's size. 02, A3: "A field for either a CPF or a CNPJ has 11 or 14 digits"
+abbrev pub reimbursementRows : ℕ → List Row
+reimbursementRows size =
+    row C fixed size obligatory identifier ∷  -- 1 Identificador de registro
+    row N variable 14 obligatory cpfOrCnpj ∷  -- 2 CPF/CNPJ do prestador de serviço
+    row C variable 150 obligatory plain ∷  -- 3 Nome/Nome empresarial do prestador de serviço
+    row N variable 9 optional amount ∷  -- 4 Valor do reembolso do ano-calendário
+    row N variable 9 optional amount ∷  -- 5 Valor do reembolso de anos anteriores
+    []
+
+-- 000, 3.30; of field 6 the table says Sim here too
+abbrev pub dtpseRows : List Row
+dtpseRows =
+    row C fixed 5 obligatory identifier ∷  -- 1 Identificador de registro
+    row N fixed 11 optional cpf ∷  -- 2 CPF do dependente
+    row D fixed 8 optional plain ∷  -- 3 Data de nascimento
+    row C variable 60 obligatory plain ∷  -- 4 Nome
+    row N fixed 2 optional relation ∷  -- 5 Relação de dependência
+    row N variable 9 obligatory amount ∷  -- 6 Valor pago no ano
+    []
+
 -- 000, 3.36, and 01, "Lines and limits": "FIMDirf has its identifier and no other field."
 abbrev pub fimdirfRows : List Row
 fimdirfRows =
@@ -256,14 +323,14 @@ fimdirfRows =
 -- 000, 3.19: the records of monthly values
 abbrev pub monthly2022 : List ℕ
 monthly2022 =
-    RTRT ∷ RTPO ∷ RTPP ∷ RTFA ∷ RTSP ∷ RTDP ∷ RTPA ∷ RTIRF ∷ CJAA ∷ CJAC ∷ ESRT ∷ ESPO ∷ ESPP ∷ ESFA ∷ ESSP ∷
-    ESDP ∷ ESPA ∷ ESIR ∷ ESDJ ∷ RIP65 ∷ RIDAC ∷ RIIRP ∷ RIAP ∷ RIMOG ∷ RIRPC ∷ RIBMR ∷ RICAP ∷ RISCP ∷ DAJUD ∷ []
+    RTRT ∷ RTPO ∷ RTPP ∷ RTFA ∷ RTSP ∷ RTEP ∷ RTDP ∷ RTPA ∷ RTIRF ∷ CJAA ∷ CJAC ∷ ESRT ∷ ESPO ∷ ESPP ∷ ESFA ∷ ESSP ∷
+    ESEP ∷ ESDP ∷ ESPA ∷ ESIR ∷ ESDJ ∷ RIP65 ∷ RIDAC ∷ RIIRP ∷ RIAP ∷ RIMOG ∷ RIRPC ∷ RIBMR ∷ RICAP ∷ RISCP ∷ DAJUD ∷ []
 
 -- 01, "What the checker covers": "RTDS and ESDS, which 000 lacks, take RTDP's field rows"
 abbrev pub monthly2025 : List ℕ
 monthly2025 =
-    RTRT ∷ RTPO ∷ RTPP ∷ RTFA ∷ RTSP ∷ RTDP ∷ RTDS ∷ RTPA ∷ RTIRF ∷ CJAA ∷ CJAC ∷ ESRT ∷ ESPO ∷ ESPP ∷ ESFA ∷
-    ESSP ∷ ESDP ∷ ESDS ∷ ESPA ∷ ESIR ∷ ESDJ ∷ RIP65 ∷ RIDAC ∷ RIIRP ∷ RIAP ∷ RIMOG ∷ RIRPC ∷ RIBMR ∷ RICAP ∷
+    RTRT ∷ RTPO ∷ RTPP ∷ RTFA ∷ RTSP ∷ RTEP ∷ RTDP ∷ RTDS ∷ RTPA ∷ RTIRF ∷ CJAA ∷ CJAC ∷ ESRT ∷ ESPO ∷ ESPP ∷ ESFA ∷
+    ESSP ∷ ESEP ∷ ESDP ∷ ESDS ∷ ESPA ∷ ESIR ∷ ESDJ ∷ RIP65 ∷ RIDAC ∷ RIIRP ∷ RIAP ∷ RIMOG ∷ RIRPC ∷ RIBMR ∷ RICAP ∷
     RISCP ∷ DAJUD ∷ []
 
 -- which records have which rows: Dirf and the records of monthly values are an edition's own
@@ -284,6 +351,8 @@ layoutOf dirfRows monthly =
     (BPJPROC ∷ [], bpjprocRows) ∷
     (RRA ∷ [], rraRows) ∷
     (BPFRRA ∷ [], bpfrraRows) ∷
+    (INFPC ∷ [], infpcRows) ∷
+    (INFPA ∷ [], infpaRows) ∷
     (monthly, monthlyRows) ∷
     (RIL96 ∷ RIPTS ∷ RIJMRE ∷ RIRSR ∷ [], annualRows) ∷
     (RIO ∷ [], rioRows) ∷
@@ -291,6 +360,12 @@ layoutOf dirfRows monthly =
     (SCP ∷ [], scpRows) ∷
     (BPFSCP ∷ [], bpfscpRows) ∷
     (BPJSCP ∷ [], bpjscpRows) ∷
+    (PSE ∷ [], pseRows) ∷
+    (OPSE ∷ [], opseRows) ∷
+    (TPSE ∷ [], tpseRows) ∷
+    (RTPSE ∷ [], reimbursementRows 5) ∷
+    (DTPSE ∷ [], dtpseRows) ∷
+    (RDTPSE ∷ [], reimbursementRows 6) ∷
     (FIMDirf ∷ [], fimdirfRows) ∷
     []
 

@@ -98,7 +98,7 @@ mayNotStandHere h = not (mayStand (h .edition) (h .before) (h .contents .kind))
 unfoldable pub wrongNumberOfFields : Contents → Bool
 wrongNumberOfFields c = not (eqb (length (c .cells)) (length (c .rows)))
 
--- 21 "a value record repeated under one beneficiary"
+-- 21 "a value record repeated", 02, A3: "under its own parent"
 unfoldable pub valueRecordRepeated : Here → Bool
 valueRecordRepeated h = standsOnce (h .contents .kind) && isSome (lastUnder (h .before) (h .parent) (h .contents .kind))
 

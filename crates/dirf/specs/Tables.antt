@@ -7,7 +7,7 @@ use lib.Dec.{leb, eqb}
 use lib.ListN.{length}
 use Rattle.dirf.specs.Bytes.{if_then_else_, every}
 use Rattle.dirf.specs.Limits.{lineLimit}
-use Rattle.dirf.specs.Kinds.{IDREC, alone, blocks, beneficiaries, values, later}
+use Rattle.dirf.specs.Kinds.{IDREC, alone, blocks, beneficiaries, pensions, values, plan, reimbursements, later}
 use Rattle.dirf.specs.Row.{Row, Format, C, N, D, Fill, fixed, variable, Holds, identifier, amount, months, ddd, telephone}
 use Rattle.dirf.specs.Row.{cpf, cnpj, cpfOrCnpj, plain, oneOf}
 use Rattle.dirf.specs.Edition.{Edition, rowsOf, kindOf, isBase}
@@ -34,10 +34,11 @@ abbrev pub digitsUpTo : ℕ → Row → Bool
 digitsUpTo n r = numeric (r .format) && not (isFixed (r .fill)) && eqb (r .size) n
 
 -- 01, "Fields": what a field holds, said a second time by its format, fill and size. QTMESES and the share in BPFSCP are both N up
--- to 4, and only the first counts months; no other shape is used for two things
+-- to 4, and only the first counts months; telephones and the amounts of a health plan are both N up to 9; no other shape is used for two
+-- things
 abbrev pub goesWith : Holds → Row → Bool
 goesWith identifier r = not (numeric (r .format))
-goesWith amount r = digitsUpTo 13 r
+goesWith amount r = digitsUpTo 13 r || digitsUpTo 9 r
 goesWith months r = digitsUpTo 4 r
 goesWith ddd r = digitsFixed 2 r
 goesWith telephone r = digitsUpTo 9 r
@@ -60,9 +61,10 @@ pub record RowsRight (e : Edition) : Type 0 where
   pub held : (k : ℕ) → every (λ r. goesWith (r .holds) r) (rowsOf e k) ≡ true
   pub dates : (k : ℕ) → every (λ r. dateSized (r .format) r) (rowsOf e k) ≡ true
 
--- each kind is one thing: a record that stands alone, an IDREC, a block, a beneficiary, a value record, or left for later
+-- each kind is one thing: a record that stands alone, an IDREC, a block, a beneficiary, a pension, a value record, an operator, holder or
+-- dependant of a health plan, a reimbursement, or left for later
 abbrev pub sorts : List ℕ
-sorts = alone ++ (IDREC ∷ blocks) ++ beneficiaries ++ values ++ later
+sorts = alone ++ (IDREC ∷ blocks) ++ beneficiaries ++ pensions ++ values ++ plan ++ reimbursements ++ later
 
 abbrev pub kindsOf : Edition → List ℕ
 kindsOf e = map (λ n. n .0) (e .names)

@@ -1,13 +1,13 @@
 -- The tree: which record may stand where, and whose it is.
 use Prim.Native.Nat.{ℕ, suc}
-use mathlib.Core.Bool.{Bool, true, _&&_, _||_}
+use mathlib.Core.Bool.{Bool, true, _&&_, _||_, not}
 use mathlib.Core.List.{List, [], _∷_}
 use mathlib.Core.Option.{Option, none, some}
 use lib.Dec.{eqb, ltb, leb}
 use lib.ListN.{length, getD}
 use Rattle.dirf.specs.Bytes.{if_then_else_, Text, isIn, lookup}
 use Rattle.dirf.specs.Kinds.{Dirf, RESPO, declarants, IDREC, FCI, PROC, RRA, BPFDEC, BPJDEC, BPFFCI, BPJFCI, BPFPROC}
-use Rattle.dirf.specs.Kinds.{BPJPROC, BPFRRA, FIMDirf, opensNothing}
+use Rattle.dirf.specs.Kinds.{BPJPROC, BPFRRA, INFPA, ESPA, PSE, FIMDirf, pensions, opensNothing}
 use Rattle.dirf.specs.Edition.{Edition}
 
 -- A record that was read: its kind, its line without the line end, its parent's line number (0: none). The records read so far are
@@ -52,9 +52,14 @@ blockOf d k =
     ((BPFDEC, d) ∷ (BPJDEC, d) ∷ (BPFFCI, FCI) ∷ (BPJFCI, FCI) ∷ (BPFPROC, PROC) ∷ (BPJPROC, PROC) ∷ (BPFRRA, RRA) ∷ [])
     k
 
+-- Where the table of yes and no cannot say it: does a record of kind h, which belongs to one of kind u, suit one of kind k below it? An
+-- IDREC has to be of the beneficiary's own block. 004 and 000, list 2.2: below the INFPA of a BPFRRA there is no ESPA.
+unfoldable pub suits : ℕ → ℕ → ℕ → ℕ → Bool
+suits d h u k = (if eqb h IDREC then eqb (blockOf d k) u else true) && (if eqb h INFPA && eqb k ESPA then eqb u BPFDEC else true)
+
 -- May a record of kind k stand directly below one of kind h, which itself belongs to one of kind u? (d: the declarant's kind)
 unfoldable pub mayHold : Edition → ℕ → ℕ → ℕ → ℕ → Bool
-mayHold e d h u k = isIn k (lookup [] (e .below d) h) && (if eqb h IDREC then eqb (blockOf d k) u else true)
+mayHold e d h u k = isIn k (lookup [] (e .below d) h) && suits d h u k
 
 unfoldable pub kindOfFirst : List Open → ℕ
 kindOfFirst [] = 0
@@ -83,13 +88,16 @@ place e before k = placeIn e (declarant before) none (opened before) k
 unfoldable pub parentOf : Edition → List Rec → ℕ → ℕ
 parentOf e before k = numberOfFirst (place e before k .up)
 
--- 01, "The tree": "Blocks .. in this order", "BPFDEC then BPJDEC". Below a declarant, an IDREC and an SCP the order of kind numbers is
--- the order of siblings: so a record may not have a lower number than the one that opened last under the same parent. Below a
--- beneficiary there is no order ("in any order"): a value record opens nothing, so none has opened last there. `Sound` asks an edition
--- that its lists are in the order of kind numbers wherever there is an order.
+-- 01, "The tree": "Blocks .. in this order", "BPFDEC then BPJDEC"; 02, A3: "RTPSE, then DTPSE". The order of kind numbers is the order
+-- of siblings: so a record may not have a lower number than the one that opened last under the same parent, and after a PSE, which
+-- "stands at most once", nothing more stands there. Below a beneficiary there is no order ("in any order"): only an INFPC or INFPA opens
+-- there. `Sound` asks an edition that its lists are in the order of kind numbers wherever there is an order.
+unfoldable pub mayFollow : ℕ → ℕ → Bool
+mayFollow last k = isIn last pensions || not (eqb last PSE) && leb last k
+
 unfoldable pub inOrder : Option Open → ℕ → Bool
 inOrder none k = true
-inOrder (some o) k = leb (o .kind) k
+inOrder (some o) k = mayFollow (o .kind) k
 
 unfoldable pub isPlaced : Place → ℕ → Bool
 isPlaced p k = ltb 0 (length (p .up)) && inOrder (p .last) k
@@ -102,5 +110,6 @@ mayStand e before k =
 
 -- to compute with this file: `unfolding tree-opens`
 unfoldable pub tree-opens : Unit {0}
-unfolding from opened opening declarant blockOf mayHold kindOfFirst numberOfFirst placeIn place parentOf inOrder isPlaced mayStand
+unfolding from opened opening declarant blockOf suits mayHold kindOfFirst numberOfFirst placeIn place parentOf mayFollow inOrder isPlaced
+    mayStand
 tree-opens = tt

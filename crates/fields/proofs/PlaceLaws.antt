@@ -7,11 +7,11 @@ use native.Mathlib.Omega.{arith}
 use lib.Dec.{eqb}
 use lib.ListN.{length, getD, drop, length-drop, length-set}
 use lib.Seq.{drop-drop, getD-set-same, getD-set-other}
-use Rattle.dirf.specs.Bytes.{Text}
+use Rattle.dirf.specs.Bytes.{if_then_else_, Text}
 use Rattle.dirf.specs.Limits.{bar}
 use Rattle.dirf.specs.Lines.{more, fields, field}
-use Rattle.dirf.specs.Keys.{keyOf}
-use Rattle.dirf.proofs.tests.Bools.{if-cases}
+use Rattle.dirf.specs.Keys.{fewerDigitsFirst, keyOf}
+use Rattle.dirf.proofs.tests.Bools.{if-cases, by-answer}
 use Rattle.fields.specs.declared.Places.{Places}
 use Rattle.fields.specs.Places.{partOf, mostFields, noPlaces, addPlace, placesFrom, placesOf, cellAt, cellsFrom, cellsAt, keyParts}
 use Rattle.fields.specs.Places.{barIn}
@@ -126,4 +126,9 @@ places-cells line h =
 pub key-of-cells : (k : ℕ) (cells : List Text) → keyOf k cells ≡ keyParts k (field 2 cells) (field 3 cells)
 unfolding keyOf keyParts field
 key-of-cells k cells =
-    by-kind (λ fs. map (λ f. field f cells) fs ≡ map (λ f. field f ([] ∷ field 2 cells ∷ field 3 cells ∷ [])) fs) refl refl refl k
+    let both : List Text = [] ∷ field 2 cells ∷ field 3 cells ∷ [] in
+    by-kind
+    (λ r fs.
+    (if r then fewerDigitsFirst (field 2 cells) else map (λ f. field f cells) fs)
+    ≡ (if r then fewerDigitsFirst (field 2 cells) else map (λ f. field f both) fs))
+    refl (λ r. by-answer r (λ e. rw e) (λ e. rw e)) refl k

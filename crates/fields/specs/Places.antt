@@ -1,13 +1,13 @@
 -- Where the fields of a line stand: starts and lengths, by value.
 use Prim.Native.Nat.{ℕ, zero, suc, _+_, _-_, min}
-use mathlib.Core.List.{List, [], _∷_, map}
+use mathlib.Core.List.{List, [], _∷_}
 use lib.Dec.{eqb}
 use lib.ListN.{length, getD, take, drop, set, replicate}
 use Rattle.dirf.specs.Bytes.{if_then_else_, Text}
 use Rattle.dirf.specs.Limits.{bar}
 use Rattle.dirf.specs.FieldReader.{fieldThere, fieldStart, fieldLength}
-use Rattle.dirf.specs.Keys.{keyFields}
-use Rattle.dirf.specs.Lines.{clean, field}
+use Rattle.dirf.specs.Keys.{keyOf}
+use Rattle.dirf.specs.Lines.{clean}
 use Rattle.fields.specs.declared.Place.{Place}
 use Rattle.fields.specs.declared.Places.{Places}
 use Rattle.fields.specs.declared.Scanned.{Scanned}
@@ -68,7 +68,7 @@ cellsAt s p = cellsFrom s p 0 (min mostFields (p .count))
 
 -- the key of a kind, out of fields 2 and 3
 unfoldable pub keyParts : ℕ → Text → Text → List Text
-keyParts k second third = map (λ f. field f ([] ∷ second ∷ third ∷ [])) (keyFields k)
+keyParts k second third = keyOf k ([] ∷ second ∷ third ∷ [])
 
 -- how many bytes stand before the first bar, or before the end
 unfoldable pub barIn : Text → ℕ

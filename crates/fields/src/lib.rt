@@ -4,10 +4,11 @@ ghost use mathlib.Core.List.{[], _∷_};
 ghost use Prim.Native.Nat.{_+_, _≤_, _<_, min};
 ghost use lib.ListN.{length, drop, set};
 ghost use denote.Ref.{ptr};
-ghost use Rattle.dirf.specs.Bytes.{same as sameText, less as lessText};
+ghost use Rattle.dirf.specs.Bytes.{if_then_else_, isIn, same as sameText, less as lessText};
+ghost use Rattle.dirf.specs.Kinds.{reimbursements};
 ghost use Rattle.dirf.specs.Lines.{isLineEnd, fields as fieldsOf};
 ghost use Rattle.dirf.specs.FieldReader.{fieldThere, fieldOf, fieldStart};
-ghost use Rattle.dirf.specs.Keys.{keyFields, keyOf, keyLess};
+ghost use Rattle.dirf.specs.Keys.{keyFields, fewerDigitsFirst, keyOf, keyLess};
 ghost use Rattle.fields.specs.Places.{partOf, placeOf, scanOf, placesAlong, keyParts, barIn};
 
 // No record has more fields than this.
@@ -97,13 +98,37 @@ fn then_less(a: &[u8], b: &[u8], x: &[u8], y: &[u8]) -> bool
     false
 }
 
+// Whether a number comes before another: the one with fewer digits first, then byte by byte.
+fn number_less(a: &[u8], b: &[u8]) -> bool
+    ensures { λ r. ⌜ r ≡ keyLess (fewerDigitsFirst (now (a .entry))) (fewerDigitsFirst (now (b .entry))) ⌝ }
+{
+    if a.len() < b.len() {
+        return true;
+    }
+    if a.len() == b.len() {
+        return less(a, b);
+    }
+    false
+}
+
+// Whether a key of field 2 alone comes before another: that of RTPSE and RDTPSE is a CPF or a CNPJ.
+fn one_less(k: u32, a: &[u8], b: &[u8]) -> bool
+    ensures { λ r. ⌜ r ≡ (if isIn k reimbursements then keyLess (fewerDigitsFirst (now (a .entry))) (fewerDigitsFirst (now (b .entry)))
+        else lessText (now (a .entry)) (now (b .entry))) ⌝ }
+{
+    match k {
+        66 | 68 => number_less(a, b),
+        _ => less(a, b),
+    }
+}
+
 // Whether the key of an earlier line of kind k comes before that of a record of that kind with these fields 2 and 3.
 pub fn key_less(k: u32, earlier: &[u8], second: &[u8], third: &[u8]) -> bool
     ensures { λ r. ⌜ r ≡ keyLess (keyOf k (fieldsOf (now (earlier .entry)))) (keyParts k (now (second .entry)) (now (third .entry))) ⌝ }
 {
     match key_count(k) {
         2 => then_less(field(earlier, 2), field(earlier, 3), second, third),
-        1 => less(field(earlier, 2), second),
+        1 => one_less(k, field(earlier, 2), second),
         _ => false,
     }
 }
@@ -113,14 +138,14 @@ pub fn key_count(k: u32) -> usize
     ensures { λ r. ⌜ r ≡ length (keyFields k) ⌝ }
 {
     match k {
-        // PROC, RRA
-        51 | 55 => 2,
-        // IDREC, FCI, SCP
-        5 | 48 | 59 => 1,
-        // BPFDEC, BPFFCI, BPFPROC, BPFRRA, BPFSCP
-        6 | 49 | 52 | 56 | 60 => 1,
-        // BPJDEC, BPJFCI, BPJPROC, BPJSCP
-        44 | 50 | 54 | 62 => 1,
+        // PROC, RRA, INFPA, DTPSE
+        51 | 55 | 29 | 67 => 2,
+        // IDREC; RTPSE, RDTPSE
+        5 | 66 | 68 => 1,
+        // a CPF: BPFDEC, BPFFCI, BPFPROC, BPFRRA, BPFSCP, TPSE
+        6 | 49 | 52 | 56 | 60 | 65 => 1,
+        // a CNPJ: INFPC, BPJDEC, FCI, BPJFCI, BPJPROC, SCP, BPJSCP, OPSE
+        20 | 44 | 48 | 50 | 54 | 59 | 62 | 64 => 1,
         _ => 0,
     }
 }

@@ -5,12 +5,12 @@ use mathlib.Core.List.{List, [], _∷_, _++_, map}
 use lib.Dec.{eqb, ltb}
 use lib.ListN.{length, getD, take, drop, replicate}
 use Rattle.dirf.specs.Bytes.{if_then_else_, Text, bytes, isIn, lookup}
-use Rattle.dirf.specs.Kinds.{IDREC, isLater}
+use Rattle.dirf.specs.Kinds.{isLater}
 use Rattle.dirf.specs.Row.{Row, row, Format, C, N, D, Fill, fixed, variable, Need, obligatory, optional}
 use Rattle.dirf.specs.Row.{Holds, identifier, amount, months, ddd, telephone, cpf, cnpj, cpfOrCnpj, plain, oneOf, sOrN}
-use Rattle.dirf.specs.Layout.{mark2022}
+use Rattle.dirf.specs.Layout.{mark2022, relation}
 use Rattle.dirf.specs.Edition.{Edition, kindIn, nameOf, rowsOf}
-use Rattle.dirf.specs.Tree.{blockOf}
+use Rattle.dirf.specs.Tree.{suits}
 use Rattle.fields.specs.Places.{mostFields}
 
 -- f 0, f 1, .. , n of them
@@ -24,7 +24,7 @@ kinds = 74
 
 -- nothing stands below a kind from this number on: no row for it in the tables of what stands below what
 abbrev pub holders : ℕ
-holders = 63
+holders = 68
 
 -- a slot of the table of identifiers: the length, then seven bytes
 abbrev pub slot : ℕ
@@ -81,6 +81,7 @@ holdsOf b =
     (50, oneOf (bytes "1" ∷ bytes "2" ∷ [])) ∷
     (51, oneOf (bytes "1" ∷ bytes "2" ∷ bytes "3" ∷ [])) ∷
     (56, oneOf (bytes "0" ∷ bytes "1" ∷ bytes "2" ∷ bytes "3" ∷ bytes "4" ∷ bytes "8" ∷ [])) ∷
+    (107, relation) ∷
     [])
     b
 
@@ -109,7 +110,7 @@ yesIn t h k = ltb h holders && ltb k kinds && eqb (getD (getD t h []) k 0) 89
 
 -- may a record of kind k stand directly below one of kind h, which belongs to one of kind u, by the table of the declarant d?
 unfoldable pub holdsIn : List (List ℕ) → ℕ → ℕ → ℕ → ℕ → Bool
-holdsIn t d h u k = yesIn t h k && (if eqb h IDREC then eqb (blockOf d k) u else true)
+holdsIn t d h u k = yesIn t h k && suits d h u k
 
 -- the tables of an edition
 unfoldable pub slotOf : Text → List ℕ
@@ -157,7 +158,8 @@ holdsByte plain = 46
 holdsByte (oneOf vs) =
     kindIn
     ((115, bytes "SN") ∷ (121, bytes "2025") ∷ (122, bytes "2024") ∷ (114, bytes "R6GP3ZA") ∷ (111, bytes "2022") ∷
-    (112, bytes "20212022") ∷ (113, mark2022) ∷ (49, bytes "01") ∷ (50, bytes "12") ∷ (51, bytes "123") ∷ (56, bytes "012348") ∷ [])
+    (112, bytes "20212022") ∷ (113, mark2022) ∷ (49, bytes "01") ∷ (50, bytes "12") ∷ (51, bytes "123") ∷ (56, bytes "012348") ∷
+    (107, bytes "0304060810") ∷ [])
     (concat vs)
 
 unfoldable pub rowBytesOf : Row → List ℕ

@@ -42,9 +42,9 @@ one-of s (k ∷ ks) all =
 abbrev letters : List ℕ
 letters = 115 ∷ 49 ∷ 50 ∷ 51 ∷ 56 ∷ []
 
--- the identifier, and of each edition the two years and the layout's own code
+-- the identifier, of each edition the two years and the layout's own code, and relations
 abbrev words : List (List ℕ)
-words = (113 ∷ []) ∷ (112 ∷ []) ∷ (111 ∷ []) ∷ (114 ∷ []) ∷ (122 ∷ []) ∷ (121 ∷ []) ∷ (105 ∷ []) ∷ []
+words = (107 ∷ []) ∷ (113 ∷ []) ∷ (112 ∷ []) ∷ (111 ∷ []) ∷ (114 ∷ []) ∷ (122 ∷ []) ∷ (121 ∷ []) ∷ (105 ∷ []) ∷ []
 
 apart : (h : ℕ) → isIn h letters ≡ false → NoneOf words h → some (isIn h) (letters ∷ words) ≡ false
 unfolding some

@@ -8,6 +8,7 @@ ghost use Prim.Native.Nat.{_≤_, _^_, min};
 ghost use lib.ListN.{length};
 ghost use Rattle.dirf.specs.Bytes.{every, some, isDigit, beginsWith, same};
 ghost use Rattle.dirf.specs.Row.{N, variable};
+ghost use Rattle.dirf.specs.Layout.{relation};
 ghost use Rattle.dirf.specs.Numbers.{valueOf, isLeap, daysIn, isDay, isDate};
 ghost use Rattle.dirf.specs.Fields.{rightByte, fillsTo, sizeHeld, takesNoZero, dated, valid, digitsHeld, fieldOrder};
 ghost use Rattle.dirf.specs.Conditions.{conditionOrder};
@@ -252,6 +253,7 @@ fn is_valid(name: &[u8], holds: u8, s: &[u8]) -> bool
         b'o' => fields::same(s, b"2022"),
         b'p' => is_either(s, b"2021", b"2022"),
         b'q' => fields::same(s, b"XJFSFHB"),
+        b'k' => is_relation(s),
         _ => is_letter(holds, s),
     }
 }
@@ -264,6 +266,19 @@ fn is_either(s: &[u8], a: &[u8], b: &[u8]) -> bool
         return true;
     }
     fields::same(s, b)
+}
+
+// How a dependant is related to the person: spouse, child, stepchild, parent, other.
+fn is_relation(s: &[u8]) -> bool
+    ensures { λ r. ⌜ r ≡ valid [] relation (now (s .entry)) ⌝ }
+{
+    if is_either(s, b"03", b"04") {
+        return true;
+    }
+    if is_either(s, b"06", b"08") {
+        return true;
+    }
+    fields::same(s, b"10")
 }
 
 // One of the printed values of one byte.

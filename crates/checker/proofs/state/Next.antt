@@ -17,6 +17,7 @@ use Rattle.dirf.specs.Tree.{Rec, Open, opened, opening, declarant, place, paren
 use Rattle.dirf.specs.Tree.{mayStand}
 use Rattle.dirf.specs.Order.{closed}
 use Rattle.dirf.specs.Check.{bytesOf}
+use Rattle.dirf.specs.Theorems.Belongs.{deepest}
 use Rattle.dirf.proofs.tree.History.{next}
 use Rattle.dirf.proofs.tree.OpenRecords.{open-depth, Placed}
 use Rattle.dirf.proofs.tree.Opened.{placed}
@@ -26,7 +27,7 @@ use Rattle.dirf.proofs.tree.Levels.{opens-level}
 use Rattle.fields.specs.Places.{partOf}
 use Rattle.layout.specs.Tables.{kinds}
 use Rattle.layout.specs.LaidOut.{SayBelow}
-use Rattle.checker.specs.State.{deepest, lastIn, above, heldAt, lastLine}
+use Rattle.checker.specs.State.{lastIn, above, heldAt, lastLine}
 use Rattle.checker.specs.State.{declarantOf, pathAfter, pastAfter, stateAfter}
 use Rattle.checker.specs.declared.state.Path.{Path}
 use Rattle.checker.specs.declared.state.Past.{Past}

@@ -15,6 +15,7 @@ use Rattle.dirf.specs.Tree.{Rec, Open, opened, opening, declarant, mayHold, kin
 use Rattle.dirf.specs.Tree.{inOrder, isPlaced, mayStand}
 use Rattle.dirf.specs.Order.{closed}
 use Rattle.dirf.specs.Check.{bytesOf}
+use Rattle.dirf.specs.Theorems.Belongs.{deepest}
 use Rattle.dirf.specs.Theorems.Sound.{Sound}
 use Rattle.dirf.proofs.tree.History.{History, start}
 use Rattle.dirf.proofs.tree.Parents.{has-parent}
@@ -26,7 +27,8 @@ use Rattle.dirf.proofs.tests.Says.{below-or}
 use Rattle.dirf.proofs.tree.Levels.{level-most}
 use Rattle.layout.specs.Tables.{kinds}
 use Rattle.layout.specs.LaidOut.{SayBelow}
-use Rattle.checker.specs.State.{deepest, startState, startPast, lastIn, above, heldIn, heldAt, orderAt, belowOn, standsOn, lastLine}
+use Rattle.checker.specs.State.{startState, startPast, lastIn, above, heldIn, heldAt, orderAt, belowOn, standsOn}
+use Rattle.checker.specs.State.{lastLine}
 use Rattle.checker.specs.declared.state.Path.{Path}
 use Rattle.checker.specs.declared.state.Past.{Past}
 use Rattle.checker.specs.declared.state.State.{State}

@@ -10,26 +10,29 @@ use lib.Dec.{eqb, ltb}
 use lib.ListN.{length, getD}
 use borrow.Author.Tests.{lt-ltb, le-ltb}
 use Rattle.dirf.specs.Bytes.{if_then_else_, isIn, lookup}
-use Rattle.dirf.specs.Kinds.{Dirf, RESPO, DECPF, DECPJ, IDREC, FIMDirf}
+use Rattle.dirf.specs.Kinds.{Dirf, RESPO, DECPF, DECPJ, IDREC, BPFDEC, INFPA, ESPA, FIMDirf, pensions}
 use Rattle.dirf.specs.Edition.{Edition}
-use Rattle.dirf.specs.Tree.{Rec, Open, opening, blockOf, mayHold, kindOfFirst, placeIn, place, inOrder, isPlaced, mayStand}
+use Rattle.dirf.specs.Tree.{Rec, Open, opening, blockOf, suits, mayHold, kindOfFirst, placeIn, place, mayFollow, inOrder, isPlaced}
+use Rattle.dirf.specs.Tree.{mayStand}
 use Rattle.dirf.specs.Theorems.Breach.{Holds, Innermost, here, further, NotBefore, Below, StandsAfter, Stands}
 use Rattle.dirf.specs.Theorems.Plain.{_∈_}
 use Rattle.dirf.proofs.tests.Bools.{if-cases}
-use Rattle.dirf.proofs.tests.Says.{Says, never, says-and, says-by, denies, says, leb-says, one-says, two-says}
+use Rattle.dirf.proofs.tests.Says.{Says, never, says-and, says-by, denies, says, one-says, two-says}
 
 holds-says : (e : Edition) (d : ℕ) (o : Open) (outer : List Open) (k : ℕ)
     → Says (mayHold e d (o .kind) (kindOfFirst outer) k) (Holds e d o outer k)
-unfolding mayHold
+unfolding mayHold suits
 holds-says e d o outer k =
-    let parts : Says (mayHold e d (o .kind) (kindOfFirst outer) k)
-    ((k ∈ lookup [] (e .below d) (o .kind)) × (o .kind ≡ IDREC → blockOf d k ≡ kindOfFirst outer)) = search says in
-    says-by (λ h. record { listed = h .0; block = h .1 }) (λ h. (h .listed, h .block)) parts
+    let u : ℕ = kindOfFirst outer in
+    let parts : Says (mayHold e d (o .kind) u k)
+    ((k ∈ lookup [] (e .below d) (o .kind)) × ((o .kind ≡ IDREC → blockOf d k ≡ u) × ((o .kind ≡ INFPA) × (k ≡ ESPA) → u ≡ BPFDEC))) =
+    search says depth 12 in
+    says-by (λ h. record { listed = h .0; block = h .1 .0; person = h .1 .1 }) (λ h. (h .listed, (h .block, h .person))) parts
 
 order-says : (c : Option Open) (k : ℕ) → Says (inOrder c k) (NotBefore c k)
-unfolding inOrder
+unfolding inOrder mayFollow pensions
 order-says none k = (λ e. tt, λ h. refl)
-order-says (some o) k = leb-says (o .kind) k
+order-says (some o) k = search says depth 12
 
 positive : (n : ℕ) → Says (ltb 0 (suc n)) (Unit {0})
 positive n = (λ e. tt, λ h. lt-ltb 0 (suc n) (omega arith))

@@ -10,17 +10,17 @@ use lib.Dec.{eqb, ltb}
 use lib.ListN.{length, getD}
 use borrow.Author.Tests.{eqb-true, eqb-false, eq-eqb, ltb-true, ltb-false, not-true}
 use Rattle.dirf.specs.Bytes.{every, isIn, lookup, bytes-opens}
-use Rattle.dirf.specs.Kinds.{Dirf, RESPO, IDREC, FIMDirf, declarants, alone, blocks, kinds-opens}
+use Rattle.dirf.specs.Kinds.{Dirf, RESPO, IDREC, BPFDEC, INFPA, ESPA, FIMDirf, declarants, alone, blocks, kinds-opens}
 use Rattle.dirf.specs.Edition.{Edition}
-use Rattle.dirf.specs.Tree.{Rec, Open, opening, declarant, blockOf, mayHold, kindOfFirst, numberOfFirst, place, parentOf, inOrder}
-use Rattle.dirf.specs.Tree.{isPlaced, mayStand}
+use Rattle.dirf.specs.Tree.{Rec, Open, opening, declarant, blockOf, suits, mayHold, kindOfFirst, numberOfFirst, place, parentOf}
+use Rattle.dirf.specs.Tree.{inOrder, isPlaced, mayStand}
 use Rattle.dirf.specs.Check.{Entry, entryOf, tableOf}
 use Rattle.dirf.specs.Theorems.Plain.{_∈_}
 use Rattle.dirf.specs.Theorems.Belongs.{parentsOf, groupOf, level}
 use Rattle.dirf.specs.Theorems.Sound.{Sound}
 use Rattle.dirf.specs.Theorems.Whose.{entryAt, kindAt, parentAt, IsLine, Nobodys}
 use Rattle.dirf.proofs.tests.Bools.{and-left, and-right, or-cases, if-cases, by-answer}
-use Rattle.dirf.proofs.tests.Says.{isIn-says}
+use Rattle.dirf.proofs.tests.Says.{Says, says, isIn-says}
 use Rattle.dirf.proofs.tests.Lists.{every-in, every-at}
 use Rattle.dirf.proofs.tree.Belongs.{parent-group, group-within, block-deep, block-parent}
 use Rattle.dirf.proofs.tree.Levels.{level-in}
@@ -29,10 +29,19 @@ use Rattle.dirf.proofs.tree.History.{History, start, next, table-length
 use Rattle.dirf.proofs.tree.OpenRecords.{Known, Last, OpenRecords, innermost, first-number, first-kind, Holder, holder-parent}
 use Rattle.dirf.proofs.tree.Opened.{placed, unheld}
 
-own-block : (e : Edition) (d h u k : ℕ) → mayHold e d h u k ≡ true → h ≡ IDREC → u ≡ blockOf d k
-unfolding mayHold
-own-block e d h u k holds i =
-    sym (eqb-true (blockOf d k) u (rw (eq-eqb h IDREC i) at (and-right (isIn k (lookup [] (e .below d) h)) _ holds)))
+-- what the second question of the tree says of what holds a record
+module _ (e : Edition) (d h u k : ℕ) (holds : mayHold e d h u k ≡ true) where
+  both : (h ≡ IDREC → blockOf d k ≡ u) × ((h ≡ INFPA) × (k ≡ ESPA) → u ≡ BPFDEC)
+  unfolding mayHold suits
+  both =
+      let asked : Says (suits d h u k) ((h ≡ IDREC → blockOf d k ≡ u) × ((h ≡ INFPA) × (k ≡ ESPA) → u ≡ BPFDEC)) = search says depth 12 in
+      asked .0 (and-right (isIn k (lookup [] (e .below d) h)) (suits d h u k) holds)
+
+  of-block : h ≡ IDREC → u ≡ blockOf d k
+  of-block i = sym (both .0 i)
+
+  of-person : h ≡ INFPA → k ≡ ESPA → u ≡ BPFDEC
+  of-person i a = both .1 (i, a)
 
 module _ (e : Edition) (sound : Sound e) where
   -- a record that stands alone is one of the opening lines, or FIMDirf
@@ -162,14 +171,15 @@ module _ (e : Edition) (sound : Sound e) where
               ordered = h .2;
             }
 
-    -- Line n stands below line p: every line between them belongs to p or to one between, and an IDREC is of n's own block.
+    -- Line n stands below line p: every line between them belongs to p or to one between, and what p belongs to suits n.
     pub record Below (n p : ℕ) : Type 0 where
       pub above : (1 ≤ p) × (p < n)
       pub to : kindAt t p ∈ parentsOf (kindAt t n)
       pub unbroken : (m : ℕ) → p < m → m < n → p ≤ parentAt t m
       pub own-block : kindAt t p ≡ IDREC → kindAt t (parentAt t p) ≡ blockOf (kindAt t 3) (kindAt t n)
+      pub own-person : kindAt t p ≡ INFPA → kindAt t n ≡ ESPA → kindAt t (parentAt t p) ≡ BPFDEC
 
-    below : (n : ℕ) → IsLine t n → 0 < level (kindAt t n) → Below n (parentAt t n)
+    pub below : (n : ℕ) → IsLine t n → 0 < level (kindAt t n) → Below n (parentAt t n)
     unfolding entryOf
     below n l deep =
         let y = held n l deep in
@@ -180,17 +190,20 @@ module _ (e : Edition) (sound : Sound e) where
         let kind = ap (λ z. z .kind) (x .entry) in
         let first = x .earlier (o .number) (omega (arith, x .number, y .above)) in
         let kind′ : kindAt t (o .number) ≡ o .kind = ap (λ z. z .kind) first ∙ y .known .kind in
+        let outer : kindAt t (parentAt t (o .number)) ≡ kindOfFirst (y .outer) =
+        ap (kindAt t) (ap (λ z. z .parent) first ∙ y .known .parent)
+        ∙ ap (λ z. z .kind) (x .earlier (numberOfFirst (y .outer)) (omega (arith, first-number (y .rest), x .number, y .above)))
+        ∙ first-kind (y .rest) in
         rw (y .parent)
         (record {
           above = (omega (arith, first-number (y .rest)), y .above);
           to = rw (kind′, kind) (holder-parent e d k sound (o .kind) (kindOfFirst (y .outer)) (y .holds));
           unbroken = λ m v w. rw (x .earlier m (omega (arith, x .number)), parentAt) (y .known .since m v (omega (arith, x .number)));
           own-block = λ i.
-              ap (kindAt t) (ap (λ z. z .parent) first ∙ y .known .parent)
-              ∙ ap (λ z. z .kind) (x .earlier (numberOfFirst (y .outer)) (omega (arith, first-number (y .rest), x .number, y .above)))
-              ∙ first-kind (y .rest)
-              ∙ own-block e d (o .kind) (kindOfFirst (y .outer)) k (y .holds) (sym kind′ ∙ i)
+              outer ∙ of-block e d (o .kind) (kindOfFirst (y .outer)) k (y .holds) (sym kind′ ∙ i)
               ∙ sym (ap₂ blockOf (ap (λ z. z .kind) (x .earlier 3 (y .after)) ∙ declarant-line (x .before) (y .after)) kind);
+          own-person = λ i a.
+              outer ∙ of-person e d (o .kind) (kindOfFirst (y .outer)) k (y .holds) (sym kind′ ∙ i) (sym kind ∙ a);
         })
 
     -- what stands no deeper than the declarant stands alone, and is nobody's

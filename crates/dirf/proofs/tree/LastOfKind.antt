@@ -1,7 +1,7 @@
 -- To know the record before it of the same kind under the same parent, it is enough to remember the last record of each kind: where a
 -- record may stand, the last of its kind is the one that is looked for, or there is none.
 use Prim.Native.Nat.{ℕ, suc, _-_, _≤_, _<_}
-use mathlib.Core.Path.{_≡_, refl, sym, ap, _∙_, subst}
+use mathlib.Core.Path.{_≡_, refl, sym, _∙_, subst}
 use mathlib.Core.Bool.{Bool, true, false, _&&_, true≢false}
 use mathlib.Core.List.{List, [], _∷_}
 use mathlib.Core.Option.{Option, none, some}
@@ -104,7 +104,8 @@ module _ (e : Edition) (sound : Sound e) where
       let idrec = parents-apart (o .kind) k (kindAt t q) to to′ inside in
       let a = idrec-apart (o .kind) (kindAt t q) k idrec to to′ inside in
       let three : o .number ≡ 3 =
-      third e sound hist (o .number) (known .line .0, omega (arith, size, known .line .1)) (subst (λ j. j ∈ declarants) (sym (known .kind)) (a .0)) in
+      third e sound hist (o .number) (known .line .0, omega (arith, size, known .line .1))
+      (subst (λ j. j ∈ declarants) (sym (known .kind)) (a .0)) in
       let l : (1 ≤ q) × (q ≤ length t) = (omega arith, omega (arith, size, s .above .1)) in
       let below = last-least before c (o ∷ outer) k (λ _. ordered) last three q (omega (arith, s .above .1))
       (block-third e sound hist q l (a .1) .1) in

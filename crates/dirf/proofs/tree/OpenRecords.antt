@@ -2,22 +2,26 @@
 -- and no block before the open one is of a later kind. One more record leaves it so, and so does a place.
 use Prim.Native.Nat.{ℕ, suc, _≤_, _<_}
 use mathlib.Core.Path.{_≡_, refl, ap, _∙_}
-use mathlib.Core.Bool.{true}
+use mathlib.Core.Bool.{true, not}
+use mathlib.Core.Logic.{⊎-elim}
 use mathlib.Core.List.{List, [], _∷_}
 use mathlib.Core.Option.{Option, none, some}
 use native.Mathlib.Nat.{le-trans}
 use native.Mathlib.Omega.{arith}
+use lib.Dec.{eqb}
 use lib.ListN.{length}
 use borrow.Author.Tests.{eq-eqb, ne-eqb, leb-true}
 use Rattle.dirf.specs.Bytes.{isIn, lookup}
+use Rattle.dirf.specs.Kinds.{PSE, pensions}
 use Rattle.dirf.specs.Edition.{Edition}
-use Rattle.dirf.specs.Tree.{Rec, Open, from, mayHold, kindOfFirst, numberOfFirst, Place, placeIn, inOrder}
+use Rattle.dirf.specs.Tree.{Rec, Open, from, mayHold, kindOfFirst, numberOfFirst, Place, placeIn, mayFollow, inOrder}
 use Rattle.dirf.specs.Check.{entryOf, tableOf}
 use Rattle.dirf.specs.Theorems.Plain.{_∈_}
 use Rattle.dirf.specs.Theorems.Belongs.{parentsOf, level}
 use Rattle.dirf.specs.Theorems.Sound.{Sound}
 use Rattle.dirf.specs.Theorems.Whose.{kindAt, parentAt}
-use Rattle.dirf.proofs.tests.Bools.{and-left, if-cases}
+use Rattle.dirf.proofs.tests.Bools.{and-left, and-right, or-cases, if-cases}
+use Rattle.dirf.proofs.tests.Says.{isIn-says}
 use Rattle.dirf.proofs.tree.Belongs.{parent-deeper}
 use Rattle.dirf.proofs.tree.History.{entry-last, entry-earlier, line-cases}
 
@@ -30,7 +34,7 @@ pub record Known (before : List Rec) (o : Open) (outer : List Open) : Type 0 whe
   pub line : (0 < o .number) × (o .number ≤ length before)
   pub kind : kindAt (tableOf before) (o .number) ≡ o .kind
   pub parent : parentAt (tableOf before) (o .number) ≡ numberOfFirst outer
-  pub belongs : 0 < length outer → kindOfFirst outer ∈ parentsOf (o .kind)
+  pub no-pension : numberOfFirst outer ≡ 3 → o .kind ∈ pensions → ⊥
   pub since : (m : ℕ) → o .number < m → m ≤ length before → o .number ≤ parentAt (tableOf before) m
   pub latest : numberOfFirst outer ≡ 3 → EachBlock before (λ k. k ≤ o .kind)
 
@@ -78,10 +82,12 @@ module _ {before : List Rec} where
 -- a kind in order behind the last block is no earlier than any block
 pub last-least : (before : List Rec) (c : Option Open) (os : List Open) (k : ℕ) → (0 < numberOfFirst os → inOrder c k ≡ true)
     → Last before c os → numberOfFirst os ≡ 3 → EachBlock before (λ j. j ≤ k)
-unfolding inOrder
+unfolding inOrder mayFollow
 last-least before none os k ordered none-yet three m h e = absurd (none-yet three m h e)
 last-least before (some x) os k ordered known three m h e =
-    le-trans (known .latest three m h e) (leb-true (x .kind) k (ordered (omega arith)))
+    ⊎-elim (λ p. absurd (known .no-pension three (isIn-says (x .kind) pensions .0 p)))
+    (λ q. le-trans (known .latest three m h e) (leb-true (x .kind) k (and-right (not (eqb (x .kind) PSE)) _ q)))
+    (or-cases (isIn (x .kind) pensions) _ (ordered (omega arith)))
 
 -- what one more record leaves open; and the record itself
 module _ (r : Rec) (before : List Rec) where
@@ -100,7 +106,7 @@ module _ (r : Rec) (before : List Rec) where
         line = (k .line .0, omega (arith, k .line .1));
         kind = ap (λ x. x .kind) (entry-earlier r before (o .number) (k .line .1)) ∙ k .kind;
         parent = ap (λ x. x .parent) (entry-earlier r before (o .number) (k .line .1)) ∙ k .parent;
-        belongs = k .belongs;
+        no-pension = k .no-pension;
         since = λ m s.
             line-cases (λ m. o .number ≤ parentAt (tableOf (r ∷ before)) m) (length before) m
             (λ q. rw (entry-earlier r before m q, parentAt) (k .since m s q))
@@ -115,16 +121,16 @@ module _ (r : Rec) (before : List Rec) where
       let f = first-number h in
       innermost a b (known-next inside f k) (open-next (omega arith) h)
 
-  pub known-last : {up : List Open} → r .parent ≡ numberOfFirst up → (0 < length up → kindOfFirst up ∈ parentsOf (r .kind))
+  pub known-last : {up : List Open} → r .parent ≡ numberOfFirst up → (numberOfFirst up ≡ 3 → r .kind ∈ pensions → ⊥)
       → (numberOfFirst up ≡ 3 → EachBlock before (λ j. j ≤ r .kind))
       → Known (r ∷ before) (record { number = suc (length before); kind = r .kind }) up
   unfolding entryOf
-  known-last {up} parent belongs least =
+  known-last {up} parent no-pension least =
       record {
         line = (omega arith, omega arith);
         kind = ap (λ x. x .kind) (entry-last r before);
         parent = ap (λ x. x .parent) (entry-last r before) ∙ parent;
-        belongs = belongs;
+        no-pension = no-pension;
         since = λ m a b. absurd (omega arith);
         latest = λ three. each-next (λ j. j ≤ r .kind) (λ e. omega arith) (least three);
       }

@@ -1,7 +1,6 @@
 -- The open records of every history, and the place of every record among them.
 use Prim.Native.Nat.{ℕ, suc, _-_, _≤_, _<_}
 use mathlib.Core.Path.{_≡_, refl, sym, ap, _∙_}
-use mathlib.Core.Bool.{true}
 use mathlib.Core.List.{List, [], _∷_}
 use mathlib.Core.Option.{none}
 use native.Mathlib.Nat.{le-refl}
@@ -11,12 +10,13 @@ use Rattle.dirf.specs.Kinds.{opensNothing}
 use Rattle.dirf.specs.Edition.{Edition}
 use Rattle.dirf.specs.Tree.{Rec, Open, from, opened, opening, declarant, kindOfFirst, numberOfFirst, place, parentOf, mayStand}
 use Rattle.dirf.specs.Check.{entryOf, tableOf}
-use Rattle.dirf.specs.Theorems.Belongs.{level}
+use Rattle.dirf.specs.Theorems.Plain.{_∈_}
+use Rattle.dirf.specs.Theorems.Belongs.{parentsOf, deepest, level}
 use Rattle.dirf.specs.Theorems.Sound.{Sound}
 use Rattle.dirf.specs.Theorems.Whose.{kindAt, parentAt}
 use Rattle.dirf.proofs.tests.Bools.{if-cases}
 use Rattle.dirf.proofs.tests.Says.{below-or}
-use Rattle.dirf.proofs.tree.Belongs.{shut-below}
+use Rattle.dirf.proofs.tree.Belongs.{shut-below, pension-below}
 use Rattle.dirf.proofs.tree.Levels.{level-most, opens-level}
 use Rattle.dirf.proofs.tree.Parents.{opening-level, has-parent}
 use Rattle.dirf.proofs.tree.History.{History, start, next, entry-last, entry-earlier, line-cases}
@@ -25,7 +25,7 @@ use Rattle.dirf.proofs.tree.OpenRecords.{last-least, open-next, known-l
 
 -- the open records; where only the declarant is open nothing stands below it; and every line's parent stands above it
 pub record OpenNow (before : List Rec) (os : List Open) : Type 0 where
-  pub records : OpenRecords before (suc (length before)) 4 os
+  pub records : OpenRecords before (suc (length before)) deepest os
   pub none-below : numberOfFirst os ≡ 3 → EachBlock before (λ k. ⊥)
   pub parents : (m : ℕ) → m ≤ length before → parentAt (tableOf before) m ≤ m - 1
 
@@ -61,11 +61,11 @@ module _ (e : Edition) (sound : Sound e) where
       ∙ opening-level (r .kind) 2 (rw two at stands))
       (λ more. ap (λ x. level (x .kind)) (entry-earlier r before 3 more) ∙ third-level h more)
 
-  -- a record below which nothing stands is no block
+  -- a record whose parents all stand deeper than the declarant does not stand below line 3
   no-block : {before : List Rec} → History e before → (k : ℕ) (up : List Open) → OpenRecords before (suc (length before)) (level k) up
-      → Holder e (declarant before) k up → opensNothing k ≡ true → numberOfFirst up ≡ 3 → ⊥
-  no-block {before} h k up known holds shut three =
-      let high = shut-below (kindOfFirst up) k (holders-parent e (declarant before) k sound up holds (some-first up (omega arith))) shut in
+      → Holder e (declarant before) k up → (kindOfFirst up ∈ parentsOf k → 0 < level (kindOfFirst up)) → numberOfFirst up ≡ 3 → ⊥
+  no-block {before} h k up known holds deeper three =
+      let high = deeper (holders-parent e (declarant before) k sound up holds (some-first up (omega arith))) in
       let kind : kindAt (tableOf before) 3 ≡ kindOfFirst up = ap (kindAt (tableOf before)) (sym three) ∙ first-kind known in
       omega (arith, high, third-level h (omega (arith, first-number known)), ap level kind)
 
@@ -86,24 +86,25 @@ module _ (e : Edition) (sound : Sound e) where
       let parents = parents-next r before (omega arith) (now .parents) in
       let least = last-least before (place e before k .last) (place e before k .up) k
       (λ z. has-parent e before k (deep (q .known) z) stands .2) (q .last) in
+      let under = no-block h k (place e before k .up) (q .known) (q .holder) in
       rw outer
       (if-cases (OpenNow (r ∷ before)) (opensNothing k)
       (λ shut.
       record {
         records = shallower (level-most k) (wider (omega arith) (open-next r before (omega arith) (q .known)));
-        none-below = λ three. absurd (no-block h k (place e before k .up) (q .known) (q .holder) shut three);
+        none-below = λ three. absurd (under (λ p. shut-below _ k p shut) three);
         parents = parents;
       })
       (λ opens.
       record {
         records = innermost (le-refl (suc (suc (length before)))) (opens-level k opens)
-            (known-last r before parent (holders-parent e (declarant before) k sound (place e before k .up) (q .holder)) least)
+            (known-last r before parent (λ three p. under (λ m. pension-below _ k m p) three) least)
             (open-next r before (omega arith) (q .known));
         none-below = λ three m s at. absurd (omega (arith, parents m s, at));
         parents = parents;
       }))
 
-  pub open-records : {before : List Rec} → History e before → OpenRecords before (suc (length before)) 4 (opened before)
+  pub open-records : {before : List Rec} → History e before → OpenRecords before (suc (length before)) deepest (opened before)
   open-records h = open-now h .records
 
   pub placed : {before : List Rec} → History e before → (k : ℕ)

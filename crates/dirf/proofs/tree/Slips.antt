@@ -1,4 +1,4 @@
--- Two tables that earlier checkers wrote, and that are not `Owned`: 01, "Where earlier checkers went wrong".
+-- Tables of wrong checkers that are not `Owned`: two of 01, "Where earlier checkers went wrong", and two of a private pension's amounts.
 use Prim.Native.Nat.{ℕ}
 use mathlib.Core.Path.{_≡_, refl, sym, _∙_}
 use mathlib.Core.Bool.{false, true≢false}
@@ -6,11 +6,11 @@ use mathlib.Core.Logic.{⊎-elim}
 use mathlib.Core.List.{List, [], _∷_}
 use native.Mathlib.Omega.{arith}
 use Rattle.dirf.specs.Bytes.{isIn, bytes-opens}
-use Rattle.dirf.specs.Kinds.{Dirf, RESPO, DECPJ, IDREC, BPFDEC, PROC, SCP, alone, blocks, kinds-opens}
+use Rattle.dirf.specs.Kinds.{Dirf, RESPO, DECPJ, IDREC, BPFDEC, INFPC, RTPP, RTFA, RIDAC, PROC, SCP, alone, kinds-opens}
 use Rattle.dirf.specs.Edition.{edition-opens}
 use Rattle.dirf.specs.Check.{Entry}
 use Rattle.dirf.specs.Theorems.Plain.{_∈_}
-use Rattle.dirf.specs.Theorems.Belongs.{parentsOf, belongs-opens}
+use Rattle.dirf.specs.Theorems.Belongs.{parentsOf, persons, belongs-opens}
 use Rattle.dirf.specs.Theorems.Whose.{Owned}
 use Rattle.dirf.proofs.tests.Says.{isIn-says}
 
@@ -27,7 +27,7 @@ declarantsIDREC = of Dirf 0 ∷ of RESPO 0 ∷ of DECPJ 0 ∷ of PROC 3 ∷ of I
 
 pub not-the-declarants : Owned declarantsIDREC → ⊥
 unfolding bytes-opens kinds-opens
-not-the-declarants o = o .no-block 5 (omega arith, omega arith) refl 4 (omega arith) (omega arith) (isIn-says PROC blocks .0 refl)
+not-the-declarants o = not-in PROC (IDREC ∷ persons) refl (o .idrec 5 (omega arith, omega arith) refl 4 (omega arith) (omega arith))
 
 -- a person of the declarant below an SCP
 abbrev pub personBelowSCP : List Entry
@@ -36,4 +36,25 @@ personBelowSCP = of Dirf 0 ∷ of RESPO 0 ∷ of DECPJ 0 ∷ of SCP 3 ∷ of BPF
 pub not-below-SCP : Owned personBelowSCP → ⊥
 unfolding bytes-opens kinds-opens edition-opens belongs-opens
 not-below-SCP o =
-    ⊎-elim (λ n. not-in BPFDEC alone refl (n .kind)) (λ b. not-in SCP (parentsOf BPFDEC) refl (b .to)) (o .line 5 (omega arith, omega arith))
+    ⊎-elim (λ n. not-in BPFDEC alone refl (n .kind)) (λ b. not-in SCP (parentsOf BPFDEC) refl (b .to))
+    (o .line 5 (omega arith, omega arith))
+
+-- an amount of a private pension hung on the person
+abbrev pub pensionOnPerson : List Entry
+pensionOnPerson = of Dirf 0 ∷ of RESPO 0 ∷ of DECPJ 0 ∷ of IDREC 3 ∷ of BPFDEC 4 ∷ of INFPC 5 ∷ of RTPP 5 ∷ []
+
+pub not-on-the-person : Owned pensionOnPerson → ⊥
+unfolding bytes-opens kinds-opens edition-opens belongs-opens
+not-on-the-person o =
+    ⊎-elim (λ n. not-in RTPP alone refl (n .kind)) (λ b. not-in BPFDEC (parentsOf RTPP) refl (b .to)) (o .line 7 (omega arith, omega arith))
+
+-- an INFPC that stays open past a value record of the person: line 9 belongs to line 6, and line 8 between them does not
+abbrev pub openPastTheGroup : List Entry
+openPastTheGroup =
+    of Dirf 0 ∷ of RESPO 0 ∷ of DECPJ 0 ∷ of IDREC 3 ∷ of BPFDEC 4 ∷ of INFPC 5 ∷ of RTPP 6 ∷ of RIDAC 5 ∷ of RTFA 6 ∷ []
+
+pub not-past-the-group : Owned openPastTheGroup → ⊥
+unfolding bytes-opens kinds-opens
+not-past-the-group o =
+    ⊎-elim (λ n. not-in RTFA alone refl (n .kind)) (λ b. absurd (omega (arith, b .unbroken 8 (omega arith) (omega arith))))
+    (o .line 9 (omega arith, omega arith))

@@ -7,7 +7,8 @@ use mathlib.Core.List.{List, [], _∷_, _++_}
 use mathlib.Core.Option.{Option, none, some}
 use lib.ListN.{length}
 use Rattle.dirf.specs.Bytes.{Text, bytes, lookup}
-use Rattle.dirf.specs.Kinds.{Dirf, RESPO, DECPF, DECPJ, IDREC, PROC, RRA, FIMDirf, later, values}
+use Rattle.dirf.specs.Kinds.{Dirf, RESPO, DECPF, DECPJ, IDREC, BPFDEC, INFPC, INFPA, ESPA, PROC, RRA, PSE, FIMDirf}
+use Rattle.dirf.specs.Kinds.{later, values}
 use Rattle.dirf.specs.Row.{Row, D, obligatory}
 use Rattle.dirf.specs.Edition.{Edition}
 use Rattle.dirf.specs.Lines.{fields, field}
@@ -17,10 +18,11 @@ use Rattle.dirf.specs.Order.{Here}
 use Rattle.dirf.specs.Theorems.Plain.{_∈_, Nth, NoLineEnd, RightByte, Fills, SizeHeld, TakesNoZero, Valid, DigitsHeld, Date}
 use Rattle.dirf.specs.Theorems.Plain.{SmallerKey}
 
--- the lists have k directly below an open record o, and an IDREC is of the beneficiary's own block
+-- the lists have k directly below an open record o, an IDREC is of the beneficiary's own block, and the INFPA of an ESPA is a BPFDEC's
 pub record Holds (e : Edition) (d : ℕ) (o : Open) (outer : List Open) (k : ℕ) : Type 0 where
   pub listed : k ∈ lookup [] (e .below d) (o .kind)
   pub block : o .kind ≡ IDREC → blockOf d k ≡ kindOfFirst outer
+  pub person : (o .kind ≡ INFPA) × (k ≡ ESPA) → kindOfFirst outer ≡ BPFDEC
 
 -- the innermost of the open records that may hold k is o; what opened last below o is `last`
 pub data Innermost (e : Edition) (d k : ℕ) : Option Open → List Open → Open → Option Open → Type 0 where
@@ -28,10 +30,10 @@ pub data Innermost (e : Edition) (d k : ℕ) : Option Open → List Open → Ope
   further : {c last : Option Open} {x o : Open} {outer : List Open} → (Holds e d x outer k → ⊥) → Innermost e d k (some x) outer o last
       → Innermost e d k c (x ∷ outer) o last
 
--- the order of kind numbers is kept
+-- INFPC and INFPA stand in any order; elsewhere the order of kind numbers is kept, and nothing comes after a PSE
 abbrev pub NotBefore : Option Open → ℕ → Type 0
 NotBefore none k = Unit {0}
-NotBefore (some o) k = o .kind ≤ k
+NotBefore (some o) k = (o .kind ∈ (INFPC ∷ INFPA ∷ [])) ⊎ ((o .kind ≢ PSE) × (o .kind ≤ k))
 
 -- some open record may hold k, and k does not come before what opened last there
 pub record Below (e : Edition) (d k : ℕ) (c : Option Open) (os : List Open) : Type 0 where
@@ -117,7 +119,7 @@ pub data Breach (h : Here) : ℕ → ℕ → Type 0 where
       → field 11 (h .contents .cells) ≢ bytes "S" → Breach h 19 11
   -- "field 8 is S: 13 is empty"
   estate : h .contents .kind ≡ DECPF → field 8 (h .contents .cells) ≡ bytes "S" → field 13 (h .contents .cells) ≢ [] → Breach h 19 13
-  -- 21 "a value record repeated under one beneficiary"
+  -- 21 "a value record repeated", 02, A3: "under its own parent"
   again : h .contents .kind ∈ values → (r : Rec) → r ∈ h .before → Sibling h r → Breach h 21 1
   -- 20 "key not greater"
   not-greater : keyFields (h .contents .kind) ≢ [] → (since : List Rec) (r : Rec) (earlier : List Rec) → h .before ≡ since ++ (r ∷ earlier)

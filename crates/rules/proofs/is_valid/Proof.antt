@@ -28,6 +28,7 @@ is-valid-spec =
     (λ c. search needs)
     (λ c κs. search needs)
     (λ c κs. search needs)
+    (λ c κs. search needs)
     (λ c. rw (c .before .match .keys1) (c .same .ensures))
     (λ c. rw (c .before .before .match .keys2, or-false) (c .same2 .ensures))
     (λ c. rw (c .before .before .match .keys3, or-false) (c .same3 .ensures))
@@ -35,6 +36,7 @@ is-valid-spec =
     (λ c. rw (c .before .before .match .keys5, or-false) (c .same5 .ensures))
     (λ c. rw (c .before .before .before .match .keys6) (c .is-either .ensures))
     (λ c. rw (c .before .before .match .keys7, or-false) (c .same6 .ensures))
+    (λ c. rw (c .before .match .keys8) (c .is-relation .ensures))
     (λ c.
     let t = c .before .before .before .before in
     c .is-letter .ensures ∙ letter-valid (t .args .name .now) (t .args .s .now) (t .args .holds) (search needs) (c .before .match .rest)))

@@ -3,7 +3,8 @@ use Prim.Native.Nat.{suc, _-_, _≤_}
 use mathlib.Core.Path.{_≡_, refl, sym, ap, _∙_}
 use native.Mathlib.Omega.{arith}
 use borrow.Author.Needs.{needs}
-use Rattle.checker.specs.State.{deepest, heldIn}
+use Rattle.dirf.specs.Theorems.Belongs.{deepest}
+use Rattle.checker.specs.State.{heldIn}
 use Rattle.checker.proofs.state.held_in.Statement.{statement}
 use Rattle.checker.proofs.state.held_in.Tie as tie
 

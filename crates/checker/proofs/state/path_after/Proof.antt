@@ -4,7 +4,8 @@ use native.Mathlib.Omega.{arith}
 use lib.ListN.{length}
 use lib.Seq.{set-out}
 use borrow.Author.Needs.{needs}
-use Rattle.checker.specs.State.{deepest, pathAfter}
+use Rattle.dirf.specs.Theorems.Belongs.{deepest}
+use Rattle.checker.specs.State.{pathAfter}
 use Rattle.checker.proofs.state.path_after.Statement.{statement}
 use Rattle.checker.proofs.state.path_after.Tie as tie
 
