@@ -6,6 +6,7 @@ line is the parent of which; of docs/TOUR.md's file the page says it. Records, r
 what it breaks; all else in it is right, check digits and flags too, since makers.py makes them. The layout of a case is in docs/REPLAY.md.
 Run it from anywhere; it writes the same bytes every time.
 """
+import itertools
 import os
 import struct
 import sys
@@ -54,7 +55,10 @@ def values_below(table):
 
 
 BELOW = values_below(LAYOUT)
-VALUES = MONTHLY + ANNUAL + [name for name in ROWS if name not in MONTHLY + ANNUAL and any(name in HELD[who] for who in PEOPLE)]
+# what opens below a beneficiary, and the records of a health plan
+PENSIONS, PLAN = ["INFPC", "INFPA"], ["OPSE", "TPSE", "RTPSE", "DTPSE", "RDTPSE"]
+OTHERS = [name for name in ROWS if name not in MONTHLY + ANNUAL + PENSIONS and any(name in HELD[who] for who in PEOPLE)]
+VALUES = MONTHLY + ANNUAL + OTHERS
 
 # a line of each record that keeps every rule; value records besides, below. The declarants' are those of a file without blocks
 LINE = {
@@ -78,10 +82,23 @@ LINE = {
     "SCP": f"SCP|{CNPJ}|SCP SERRA|",
     "BPFSCP": f"BPFSCP|{CPF}|ANA LIMA||",
     "BPJSCP": f"BPJSCP|{CNPJ}|SERRA LTDA||",
+    "INFPC": f"INFPC|{CNPJ}|PREVIDENCIA SERRA|",
+    "INFPA": f"INFPA|{CPF}||BIA LIMA||",
+    "PSE": "PSE|",
+    "OPSE": f"OPSE|{CNPJ}|SAUDE SERRA||",
+    "TPSE": f"TPSE|{CPF}|ANA LIMA|100|",
+    "RTPSE": f"RTPSE|{CPF}|RUI DIAS|100||",
+    "DTPSE": f"DTPSE|{CPF}||BIA LIMA||100|",
+    "RDTPSE": f"RDTPSE|{CPF}|RUI DIAS|100||",
     "FIMDirf": "FIMDirf|",
 }
 LINE.update({name: name + "|100" + "|" * 13 for name in MONTHLY})
 LINE.update({name: name + "|100|" for name in ANNUAL})
+
+# line 1 of each edition
+FIRST = {2025: LINE["Dirf"], 2022: "Dirf|2022|2021|N||XJFSFHB|"}
+# what the older edition has not
+GONE = ("RTDS", "ESDS")
 
 # what has a lawyer, in fields 4 to 6
 WITH_LAWYER = ("PROC", "RRA")
@@ -275,6 +292,8 @@ FULL_PJ = """
 %s
     BPJSCP
 %s
+  PSE
+%s
 FIMDirf"""
 
 FULL_PF = """
@@ -292,22 +311,33 @@ FULL_PF = """
 %s
     BPJSCP
 %s
+  PSE
+%s
 FIMDirf"""
 
 
-def values(names, depth):
-    return "\n".join(" " * depth + name for name in names)
+def suits(outer, holder, name):
+    """Whether a record may stand below one that is itself below an outer one: an ESPA not below the INFPA of a BPFRRA."""
+    return (outer, holder, name) != ("BPFRRA", "INFPA", "ESPA")
+
+
+def values(held, outer, holder, names, depth):
+    """Lines of these records, and below each all that may stand there."""
+    rows = []
+    for name in names:
+        if suits(outer, holder, name):
+            rows += [" " * depth + name, *values(held, holder, name, held.get(name, []), depth + 2)]
+    return rows
 
 
 def full(declarant, turned, below=BELOW):
-    """Every record that the declarant's list has, each value record once; turned round, the value records come in the other order."""
+    """Every record that the declarant's list has, each value record once; turned round, those below a beneficiary come in the other order."""
     has = {who: names[::-1] if turned else names for who, names in below[declarant].items()}
-    if declarant == "DECPJ":
-        order = [("BPFDEC", 6), ("BPJDEC", 6), ("BPFFCI", 8), ("BPJFCI", 8), ("BPFPROC", 8), ("BPJPROC", 8), ("BPFRRA", 8), ("BPFSCP", 6),
-        ("BPJSCP", 6)]
-        return pj(FULL_PJ % tuple(values(has[who], depth) for who, depth in order))
-    order = [("BPFDEC", 6), ("BPJDEC", 6), ("BPFRRA", 8), ("BPFSCP", 6), ("BPJSCP", 6)]
-    return pf(FULL_PF % tuple(values(has[who], depth) for who, depth in order))
+    held, tree = LAYOUT.below[declarant], pj if declarant == "DECPJ" else pf
+    order = [("BPFDEC", 6), ("BPJDEC", 6), ("BPFFCI", 8), ("BPJFCI", 8), ("BPFPROC", 8), ("BPJPROC", 8), ("BPFRRA", 8), ("BPFSCP", 6),
+    ("BPJSCP", 6)]
+    parts = [values(held, "", who, has[who], depth) for who, depth in order if who in has] + [values(held, declarant, "PSE", ["OPSE"], 4)]
+    return tree((FULL_PJ if declarant == "DECPJ" else FULL_PF) % tuple("\n".join(part) for part in parts))
 
 
 def whole_files():
@@ -318,9 +348,9 @@ def whole_files():
             check(tree, 0, len(tree.strip("\n").split("\n")))
     check(pf("FIMDirf"), 0, 4)
     check(pj("FIMDirf"), 0, 4)
-    for name in "IDREC FCI PROC RRA SCP".split():
+    for name in "IDREC FCI PROC RRA SCP PSE".split():
         check(pj("  " + name + "\nFIMDirf"), 0, 5)
-    for name in "IDREC RRA SCP".split():
+    for name in "IDREC RRA SCP PSE".split():
         check(pf("  " + name + "\nFIMDirf"), 0, 5)
     # nothing is left, and FIMDirf was not read
     check(LINE["Dirf"], 1, 2)
@@ -339,9 +369,9 @@ def places():
             check("Dirf\n" + name, 12, 2, 1)
         if name not in ("DECPF", "DECPJ"):
             check("Dirf\nRESPO\n" + name, 12, 3, 1)
-        if name not in "IDREC RRA SCP FIMDirf".split():
+        if name not in "IDREC RRA SCP PSE FIMDirf".split():
             check(pf("  " + name), 12, 4, 1)
-        if name not in "IDREC FCI PROC RRA SCP FIMDirf".split():
+        if name not in "IDREC FCI PROC RRA SCP PSE FIMDirf".split():
             check(pj("  " + name), 12, 4, 1)
     # READINGS.md's five
     check(pj("  FCI\n    BPFFCI"), 12, 5, 1)
@@ -395,6 +425,9 @@ LEAD = {
     "BPFDEC": "  IDREC\n    ", "BPJDEC": "  IDREC\n    ", "BPFFCI": "  FCI\n    IDREC\n      ", "BPJFCI": "  FCI\n    IDREC\n      ",
     "BPFPROC": "  PROC\n    IDREC\n      ", "BPJPROC": "  PROC\n    IDREC\n      ", "BPFRRA": "  RRA\n    IDREC\n      ",
     "BPFSCP": "  SCP\n    ", "BPJSCP": "  SCP\n    ",
+    "INFPC": "  IDREC\n    BPFDEC\n      ", "INFPA": "  IDREC\n    BPFDEC\n      ",
+    "OPSE": "  PSE\n    ", "TPSE": "  PSE\n    OPSE\n      ", "RTPSE": "  PSE\n    OPSE\n      TPSE\n        ",
+    "DTPSE": "  PSE\n    OPSE\n      TPSE\n        ", "RDTPSE": "  PSE\n    OPSE\n      TPSE\n        DTPSE\n          ",
 }
 
 
@@ -403,7 +436,7 @@ def below():
     for declarant, tree in (("DECPF", pf), ("DECPJ", pj)):
         for who, has in BELOW[declarant].items():
             line = 5 + LEAD[who].count("\n")
-            for name in VALUES:
+            for name in VALUES + PENSIONS + PLAN:
                 if name not in has:
                     check(tree(LEAD[who] + who + "\n  " + name), 12, line, 1, spare=0)
 
@@ -475,7 +508,7 @@ def faults():
     short = "  IDREC\n    BPFDEC\n"
     yield 8, pj(short + "      =RTRT"), 6, 0
     yield 9, pj(short + "      =RTRR|"), 6, 1
-    yield 10, pj(short + "      =INFPC|"), 6, 1
+    yield 10, pj(short + "      =VPEIM|"), 6, 1
     yield 12, pj(short + "      RISCP"), 6, 1
     yield 11, pj(short + "      RTRT|1|"), 6, 0
     yield 13, pj(short + "      RIO||OUTROS|"), 6, 2
@@ -490,6 +523,22 @@ def faults():
     yield 19, pj("  " + with_field("RRA", 6, "RUI BARBOSA")), 4, 6
     yield 21, pj(short + "      RTRT\n      RTRT"), 7, 1
     yield 20, pj("  IDREC\n  IDREC"), 5, 2
+    # of a private pension, alimony and a health plan
+    yield 12, pj(short + "      RTPP"), 6, 1
+    yield 12, pj(short + "      INFPC\n        RTPP\n      RIDAC\n      RTFA"), 9, 1
+    yield 12, pj("  PSE\n  PSE"), 5, 1
+    yield 11, pj(short + "      INFPC|1|"), 6, 0
+    yield 13, pj(LEAD["TPSE"] + with_field("TPSE", 4, "")), 6, 4
+    yield 15, pj(LEAD["DTPSE"] + with_field("DTPSE", 6, "1" * 10)), 7, 6
+    yield 15, pj(LEAD["RTPSE"] + with_field("RTPSE", 2, "1" * 12)), 7, 2
+    yield 16, pj(LEAD["RDTPSE"] + with_field("RDTPSE", 5, "0")), 8, 5
+    yield 17, pj(LEAD["DTPSE"] + with_field("DTPSE", 3, "20230229")), 7, 3
+    yield 18, pj(LEAD["INFPA"] + with_field("INFPA", 5, "05")), 6, 5
+    yield 26, pj(LEAD["RTPSE"] + with_field("RTPSE", 2, SWAPPED)), 7, 2
+    yield 21, pj(short + "      RTRT\n      INFPC\n      RTRT"), 8, 1
+    yield 21, pj(short + "      INFPC\n        RTPP\n        RTPP"), 8, 1
+    yield 20, pj(short + "      INFPC\n      INFPA\n      RIDAC\n      INFPC"), 9, 2
+    yield 20, pj(LEAD["RTPSE"] + "RTPSE\n        RTPSE"), 8, 2
 
 
 def rooms():
@@ -852,7 +901,7 @@ def may_hold(holder, outer, name):
     """Whether a record may stand directly below an open one, which itself stands below an outer one."""
     if holder == "IDREC":
         return name in BLOCKS.get("" if outer == "DECPJ" else outer, [])
-    return name in HELD.get(holder, [])
+    return name in HELD.get(holder, []) and suits(outer, holder, name)
 
 
 def parent_among(opened, name):
@@ -860,7 +909,7 @@ def parent_among(opened, name):
     inner = ""
     for (number, holder), (_, outer) in zip(opened, opened[1:] + [(0, "nothing")]):
         if may_hold(holder, outer, name):
-            return number if inner == "" or KIND[inner] <= KIND[name] else 0
+            return number if inner in ["", *PENSIONS] or (KIND[inner] <= KIND[name] and inner != "PSE") else 0
         inner = holder
     return 0
 
@@ -893,7 +942,8 @@ def with_key(text, key):
     return "|".join([cells[0], key] + cells[2:])
 
 
-KEYED = ORDER + PEOPLE
+# PSE has no key
+KEYED = ORDER[:-1] + PEOPLE + PENSIONS + PLAN
 
 
 def tour_before(lines, line, row):
@@ -1006,7 +1056,7 @@ def judged(name, cells, breach, field):
 def digit_fields():
     """Every field that can be 26, through the check and the writer of either edition: right, wrong and, where it may be, empty."""
     fields = [(name, field, row) for name, rows in ROWS.items() for field, row in enumerate(rows, 1) if row.holds in IDENTITY]
-    held(len(fields) == 18, "the list of fields that hold a CPF or a CNPJ")
+    held(len(fields) == 25, "the list of fields that hold a CPF or a CNPJ")
     for name, field, row in fields:
         right = [ones(size) for size in IDENTITY[row.holds]] + [""] * (row.need == "optional")
         wrong = [digits for size in IDENTITY[row.holds] for digits in neighbours(ones(size))]
@@ -1122,12 +1172,212 @@ def lawyer_pairs():
         check(pf("  " + "|".join(with_cells("RRA", {4: kind, 5: digits})) + "|"), 19 if field else 1, 4 if field else 5, field)
 
 
+# ---- private pension, alimony and health plan: document 02, A3. What stands where is written out, and held against layout.txt
+
+
+BELOW_PENSION = {
+    "DECPF": {"INFPC": "RTPP RTFA ESPP ESFA".split(), "INFPA": "RTPA ESPA".split()},
+    "DECPJ": {"INFPC": "RTPP RTFA RTSP RTEP ESPP ESFA ESSP ESEP".split(), "INFPA": "RTPA ESPA".split()},
+}
+WITH_PENSION = {"BPFDEC": PENSIONS, "BPFRRA": ["INFPA"]}
+
+
+def pension_places():
+    """Each record behind an INFPC or INFPA, under each declarant and in each edition: below it, below the person, or 12."""
+    for edition, first in FIRST.items():
+        for declarant, tree in (("DECPF", pf), ("DECPJ", pj)):
+            has = LAYOUTS[edition].below[declarant]
+            for who, pensions in WITH_PENSION.items():
+                held([name for name in has[who] if name in PENSIONS] == pensions, who)
+                lead, line = LEAD[who] + who, 6 + LEAD[who].count("\n")
+                depth = len(LEAD[who]) - LEAD[who].rfind("\n") + 1
+                for pension in pensions:
+                    held(has[pension] == BELOW_PENSION[declarant][pension], pension)
+                    for name in VALUES + PLAN + ["PSE"]:
+                        if edition == 2022 and name in GONE:
+                            continue
+                        below_it = name in BELOW_PENSION[declarant][pension] and suits(who, pension, name)
+                        stands = below_it or name in has[who] or name == "PSE"
+                        indent = depth + 2 if below_it else depth if name in has[who] else 2
+                        rows = tree(f"{lead}\n{' ' * depth}{pension}\n{' ' * indent}{name}")
+                        check(with_first(first, rows), 1 if stands else 12, line + 1 if stands else line, 0 if stands else 1)
+
+
+SHORT = "  IDREC\n    BPFDEC\n"
+
+
+def person(*rows, after=""):
+    """A file with these lines below a BPFDEC, the values of an INFPC or INFPA indented."""
+    return pj(SHORT + "\n".join("      " + row for row in rows) + after)
+
+
+def groups():
+    """A record closes what is open below its parent; below a beneficiary there is no order; 21 is asked under its own parent."""
+    other = with_field("INFPC", 2, OTHER_CNPJ)
+    kin = with_field("INFPA", 2, makers.cpf(999999999))
+    for parts in itertools.permutations([["RTRT"], ["INFPC", "  RTPP", "  ESPP"], ["INFPA", "  ESPA", "  RTPA"], ["RIO"]]):
+        rows = [row for part in parts for row in part]
+        check(person(*rows, after="\nFIMDirf"), 0, 6 + len(rows))
+    # closed by a value record of the person, by an INFPA, by the next INFPC and by the next person
+    check(person("INFPC", "  RTPP", "RIDAC", "RTFA"), 12, 9, 1)
+    check(person("INFPC", "RIDAC", "RTPP"), 12, 8, 1)
+    check(person("INFPA", "RTRT", "RTPA"), 12, 8, 1)
+    check(person("INFPC", "  RTPP", "INFPA", "  RTPA", "RTFA"), 12, 10, 1)
+    check(person("INFPA", "  RTPA", "INFPC", "ESPA"), 12, 9, 1)
+    check(pj(SHORT + f"      INFPC\n        RTPP\n    {with_field('BPFDEC', 2, makers.cpf(999999999))}\n      RTFA"), 12, 9, 1)
+    check(pj(SHORT + "      INFPC\n        RTPP\n    BPJDEC\n      RTFA"), 12, 9, 1)
+    check(pj(SHORT + "      INFPC\n        RTPP\n  SCP\n    RTFA"), 12, 9, 1)
+    # each at most once under its own parent, and what the person has had is not forgotten at an INFPC
+    check(person("INFPC", "  RTPP", other, "  RTPP", after="\nFIMDirf"), 0, 10)
+    check(person("INFPA", "  RTPA", kin, "  RTPA", "RTRT", after="\nFIMDirf"), 0, 11)
+    for rows in (["INFPC", "  RTPP", "  RTPP"], ["INFPC", "  RTPP", "  ESPP", "  RTPP"], ["INFPA", "  ESPA", "  RTPA", "  ESPA"],
+                 ["RTRT", "INFPC", "RTRT"], ["RTRT", "INFPC", "  RTPP", "RTRT"], ["RTRT", "INFPA", "  RTPA", "RIO", "INFPC", "RTRT"]):
+        check(person(*rows), 21, 5 + len(rows), 1)
+    # BPFPROC holds its own, an INFPC below it is 12
+    check(pj("  PROC\n    IDREC\n      BPFPROC\n        RTPP\n        RTPA\n        RTPP"), 21, 9, 1)
+    check(pj("  PROC\n    IDREC\n      BPFPROC\n        INFPC"), 12, 7, 1)
+    check(pj("  PROC\n    IDREC\n      BPFPROC\n        RTEP"), 12, 7, 1)
+
+
+# of a record with a key of CPF and date: the first, the next, and whether the next may follow
+LOW, HIGH = makers.cpf(1), makers.cpf(2)
+DATED = [
+    ((LOW, ""), (HIGH, ""), 0), ((HIGH, ""), (LOW, ""), 20), ((LOW, ""), (LOW, ""), 20), (("", ""), ("", ""), 20), (("", ""), (LOW, ""), 0),
+    ((LOW, ""), ("", ""), 20), (("", "20200101"), ("", "20200102"), 0), (("", "20200102"), ("", "20200101"), 20),
+    (("", "20200101"), ("", "20200101"), 20), (("", ""), ("", "19990101"), 0), (("", "19990101"), ("", ""), 20),
+    ((LOW, "20200101"), (LOW, "20200102"), 0), ((LOW, "20200102"), (LOW, "20200101"), 20), ((LOW, "20200102"), (HIGH, "20200101"), 0),
+    ((LOW, ""), (LOW, "19990101"), 0), ((LOW, "19990101"), (LOW, ""), 20), (("", "20991231"), (LOW, ""), 0), ((LOW, ""), ("", "20991231"), 20),
+]
+
+
+def dated(name, cpf, date):
+    return "|".join(with_cells(name, {2: cpf, 3: date})) + "|"
+
+
+def pension_keys():
+    """20 of INFPC and INFPA, with nothing, with their own values and with records of other kinds between."""
+    low, high = with_field("INFPC", 2, CNPJ), with_field("INFPC", 2, OTHER_CNPJ)
+    for between in ([], ["  RTPP"], ["INFPA"], ["INFPA", "  RTPA", "RIDAC"], ["RTRT", "RIO"]):
+        for one, next_one, breach in ((low, high, 0), (high, low, 20), (low, low, 20)):
+            line = 7 + len(between)
+            check(person(one, *between, next_one, after="\nFIMDirf"), breach, line if breach else line + 1, 2 if breach else 0)
+    for between in ([], ["  RTPA"], ["INFPC", "  RTPP"]):
+        for first, second, breach in DATED:
+            rows = [dated("INFPA", *first), *between, dated("INFPA", *second)]
+            check(person(*rows, after="\nFIMDirf"), breach, 5 + len(rows) + (breach == 0), 2 if breach else 0)
+            check(pj(LEAD["BPFRRA"] + "BPFRRA\n        " + rows[0] + "\n        " + rows[-1]), breach or 1, 8 + (breach == 0), 2 if breach else 0)
+    # an INFPC is not compared with the INFPA between, whatever stands in their fields, and the order starts afresh with the next person
+    check(person(low, with_field("INFPA", 2, makers.cpf(999999999)), high, after="\nFIMDirf"), 0, 9)
+    check(person(with_field("INFPA", 2, HIGH), with_field("INFPC", 2, makers.cnpj(1)), after="\nFIMDirf"), 0, 8)
+    check(pj(SHORT + f"      {high}\n    {with_field('BPFDEC', 2, makers.cpf(999999999))}\n      {low}\nFIMDirf"), 0, 9)
+    # 19, 21 and 12 of other lines, 13 to 18 and 26 of the same
+    check(person("INFPA", dated("INFPA", SWAPPED, "")), 26, 7, 2)
+    check(person("INFPA", dated("INFPA", LOW, "20230229")), 17, 7, 3)
+    check(person("INFPC", "=INFPC|" + CNPJ + "|"), 11, 7)
+
+
+# what each record of a health plan stands below
+PLAN_ABOVE = {"OPSE": "PSE", "TPSE": "OPSE", "RTPSE": "TPSE", "DTPSE": "TPSE", "RDTPSE": "DTPSE"}
+PLAN_PATHS = ["PSE", "PSE OPSE", "PSE OPSE TPSE", "PSE OPSE TPSE RTPSE", "PSE OPSE TPSE DTPSE", "PSE OPSE TPSE DTPSE RDTPSE"]
+
+
+def plan_row(name, text=""):
+    """A line of a health plan, indented by what it stands below."""
+    depth, above = 2, name
+    while above in PLAN_ABOVE:
+        depth, above = depth + 2, PLAN_ABOVE[above]
+    return " " * depth + (text or name)
+
+
+def plan(*rows, after=""):
+    """A file with these lines, each a name or a name with its line."""
+    return pj("\n".join(plan_row(*(row if isinstance(row, tuple) else (row,))) for row in rows) + after)
+
+
+def plan_places():
+    """Every record behind each of the ways in which a health plan can be open, under each declarant: its parent, or 12."""
+    for tree in (pf, pj):
+        for path in map(str.split, PLAN_PATHS):
+            line = 4 + len(path)
+            lead = "\n".join(map(plan_row, path)) + "\n"
+            for name in LINE:
+                if name == "FIMDirf":
+                    check(tree(lead + name), 0, line)
+                    continue
+                # an RTPSE behind a DTPSE of the same TPSE is 12
+                stands = name in PLAN and PLAN_ABOVE[name] in path and not (name == "RTPSE" and "DTPSE" in path)
+                size = len(cells_of(name)[1]) if stands else 0
+                text = with_field(name, 2, makers.key(size, int("9" * (size - makers.CHECK_SIZE)))) if stands else name
+                check(tree(lead + (plan_row(name, text) if stands else "  " + text)), 1 if stands else 12, line + stands, 0 if stands else 1)
+    # behind each block, and nothing behind it
+    for name in ORDER[:-1]:
+        check(pj(f"  {name}\n  PSE\n    OPSE\nFIMDirf"), 0, 7)
+        check(pj(f"  PSE\n    OPSE\n  {name}"), 12, 6, 1)
+    check(plan("PSE", "PSE"), 12, 5, 1)
+    check(plan("PSE", "OPSE", "TPSE", "DTPSE", "PSE"), 12, 8, 1)
+    # 12 against 11: the identifier alone decides
+    check(plan("PSE", ("PSE", "=PSE||")), 12, 5, 1)
+    check(plan(("PSE", "=PSE||")), 11, 4)
+    for name in PLAN:
+        check(pj("  " + LEAD[name].lstrip(" ") + "=" + name + "|"), 11, 4 + LEAD[name].count("\n"))
+        check(pj("  =" + name + "|"), 12, 4, 1)
+
+
+# numbers of who was paid: the first, the next, and whether the next may follow. 11 digits come before 14, whatever the digits
+PAID = [
+    (LOW, HIGH, 0), (HIGH, LOW, 20), (LOW, LOW, 20), (CNPJ, OTHER_CNPJ, 0), (OTHER_CNPJ, CNPJ, 20), (CNPJ, CNPJ, 20),
+    (makers.cpf(999999999), makers.cnpj(1), 0), (makers.cnpj(1), makers.cpf(999999999), 20), (LOW, makers.cnpj(1), 0),
+    (makers.cnpj(999999999999), LOW, 20), (makers.cnpj(1), LOW, 20),
+]
+
+
+def plan_keys():
+    """20 in a health plan, with what stands below and behind between; never 21."""
+    for name in ("OPSE", "TPSE"):
+        size = len(cells_of(name)[1])
+        low, high = [with_field(name, 2, makers.key(size, serial)) for serial in (1, 2)]
+        lead = ["PSE"] if name == "OPSE" else ["PSE", "OPSE"]
+        below_it = {"OPSE": ["TPSE", "DTPSE"], "TPSE": ["RTPSE", "DTPSE", "RDTPSE"]}[name]
+        for between in ([], below_it):
+            for one, next_one, breach in ((low, high, 0), (high, low, 20), (low, low, 20)):
+                rows = lead + [(name, one)] + between + [(name, next_one)]
+                check(plan(*rows, after="\nFIMDirf"), breach, 3 + len(rows) + (breach == 0), 2 if breach else 0)
+    for between in ([], ["RDTPSE"]):
+        for first, second, breach in DATED:
+            rows = ["PSE", "OPSE", "TPSE", "RTPSE", ("DTPSE", dated("DTPSE", *first)), *between, ("DTPSE", dated("DTPSE", *second))]
+            check(plan(*rows, after="\nFIMDirf"), breach, 3 + len(rows) + (breach == 0), 2 if breach else 0)
+    for name, lead in (("RTPSE", ["PSE", "OPSE", "TPSE"]), ("RDTPSE", ["PSE", "OPSE", "TPSE", "DTPSE"])):
+        for first, second, breach in PAID:
+            rows = lead + [(name, with_field(name, 2, first)), (name, with_field(name, 2, second))]
+            check(plan(*rows, after="\nFIMDirf"), breach, 3 + len(rows) + (breach == 0), 2 if breach else 0)
+    # afresh under the next holder, dependant and operator
+    high = makers.cpf(999999999)
+    check(plan("PSE", "OPSE", "TPSE", ("RTPSE", with_field("RTPSE", 2, CNPJ)), ("TPSE", with_field("TPSE", 2, high)), "RTPSE", after="\nFIMDirf"), 0, 10)
+    check(plan("PSE", "OPSE", "TPSE", "DTPSE", "RDTPSE", ("DTPSE", dated("DTPSE", high, "")), "RDTPSE", after="\nFIMDirf"), 0, 11)
+    check(plan("PSE", "OPSE", ("TPSE", with_field("TPSE", 2, high)), ("OPSE", with_field("OPSE", 2, OTHER_CNPJ)), "TPSE", after="\nFIMDirf"), 0, 9)
+
+
+def plan_fields():
+    """Amounts of nine digits, relations and the number of who was paid, through the check and the writer of either edition."""
+    for name, field, obligatory in (("TPSE", 4, True), ("DTPSE", 6, True), ("RTPSE", 4, False), ("RTPSE", 5, False), ("RDTPSE", 4, False),
+                                    ("RDTPSE", 5, False)):
+        for cell, breach in (("", 13 if obligatory else 0), ("1", 0), ("999999999", 0), ("1000000000", 15), ("0", 16), ("012345678", 16),
+                             ("0123456789", 15), ("1,00", 14), ("-1", 14)):
+            judged(name, {field: cell}, breach, field if breach else 0)
+    for name in ("INFPA", "DTPSE"):
+        for cell, breach in [(cell, 0) for cell in ("", "03", "04", "06", "08", "10")] + [("00", 18), ("01", 18), ("05", 18), ("07", 18),
+        ("09", 18), ("11", 18), ("3", 15), ("003", 15), ("3 ", 14)]:
+            judged(name, {5: cell}, breach, 5 if breach else 0)
+        for date, breach in (("", 0), ("20240229", 0), ("20230229", 17)):
+            judged(name, {3: date}, breach, 3 if breach else 0)
+            judged(name, {2: "", 3: date}, breach, 3 if breach else 0)
+    for name in ("RTPSE", "RDTPSE"):
+        # a person's name of over 60 is not looked at
+        for size, breach in ((1, 0), (60, 0), (61, 0), (150, 0), (151, 15)):
+            judged(name, {3: "N" * size}, breach, 3 if breach else 0)
+
+
 # ---- the two editions: document 02, A4, and of the older one what document 000 prints
-
-
-FIRST = {2025: LINE["Dirf"], 2022: "Dirf|2022|2021|N||XJFSFHB|"}
-# what the older edition has not
-GONE = ("RTDS", "ESDS")
 
 
 def with_first(line, tree):
@@ -1178,7 +1428,7 @@ def picked():
         check("=" + name + "|||||\n=XJFSFHB|", 12, 1, 1)
         check("=" + name + "|\n=" + name + "|||||XJFSFHB|", 12, 1, 1)
         # the other identifiers have one number in both
-        for other, breach in (("RESPO", 12), ("RTDP", 12), ("FIMDirf", 12), ("INFPC", 10), ("DIRF", 9), ("", 9)):
+        for other, breach in (("RESPO", 12), ("RTDP", 12), ("FIMDirf", 12), ("INFPC", 12), ("VPEIM", 10), ("DIRF", 9), ("", 9)):
             check("=" + other + "|||||XJFSFHB|\n=" + name + "|", breach, 1, 1)
 
 
@@ -1285,6 +1535,7 @@ def limits():
 def main(folder=os.path.join(ROOT, "crates", "replay")):
     for group in (marked, line_ends, identifiers, whole_files, places, below, orders, rooms, pairs, field_rules, identifier_rules,
     conditions, writer_order, field_places, numbers, wrong_checkers, tour, check_digits, digit_fields, digit_pairs, lawyers, lawyer_pairs,
+    pension_places, groups, pension_keys, plan_places, plan_keys, plan_fields,
     first_lines, picked, later_lines, first_line_ends, older_files, gone, kinds_written, first_lines_written, limits):
         group()
     with open(os.path.join(folder, "stdin"), "wb") as out:
