@@ -4,7 +4,8 @@
    and the line writer ask the check digits of every filled CPF and CNPJ, as
    change A1 has it: 26, after 18 of the same field; and they ask of PROC and RRA
    that the lawyer's number and name follow the lawyer's kind, as change A2 has
-   it: 19, at field 5, then 6.
+   it: 19, at field 5, then 6. Both take in INFPC, INFPA, the PSE block and what
+   stands below them, as change A3 has it.
    Every function takes every input; a pointer may be NULL where its length or
    room is 0. An output never overlaps an input. An edition is one of the two. */
 #ifndef PLAIN_H
@@ -72,13 +73,17 @@ typedef struct {
     unsigned size;
     int obligatory;
     const char *values;     /* printed values joined by a comma, or NULL */
-    int amount, months, ddd, telephone, cpf_or_cnpj;
+    int amount;             /* of 13 digits, or of 9 in a health plan: size tells */
+    int months, ddd, telephone, cpf_or_cnpj;
     int cpf, cnpj;          /* at most one of cpf_or_cnpj, cpf and cnpj; A1 asks each */
 } plain_row;
 plain_row plain_field_row(plain_edition edition, unsigned kind, unsigned f);
 
 /* 1 if the child kind may stand directly below the parent kind under the
-   declarant kind (3 DECPF, 4 DECPJ). */
+   declarant kind (3 DECPF, 4 DECPJ) in one place at least. What the two kinds
+   cannot tell, the check asks besides: below IDREC stand only the beneficiaries
+   of its own block; below INFPA, ESPA only where the INFPA stands below BPFDEC;
+   blocks, BPF and BPJ kinds, RTPSE and DTPSE each in their order; PSE once. */
 int plain_below(plain_edition edition, unsigned declarant, unsigned parent, unsigned child);
 
 #endif

@@ -24,13 +24,15 @@ enum kind {
     KINDS = FIMDIRF
 };
 
-enum role { LATER, HEAD, DECLARANT, CODE, BLOCK, BENEFICIARY, VALUE, END };
+/* From the top of the tree down: a record of one role closes what is open of the later ones. In the health plan's block OPSE
+   has the place of an IDREC, TPSE that of a beneficiary and DTPSE that of an INFPC or INFPA. */
+enum role { LATER, HEAD, DECLARANT, BLOCK, CODE, BENEFICIARY, GROUP, VALUE, END };
 enum rule { NO_RULE, AMOUNT, MONTHS, DDD, TELEPHONE, CPF, CNPJ, CPF_OR_CNPJ };
 
 enum { BAR = 124, CR = 13, LF = 10 };
 enum { MOST_FIELDS = 15, MARK_FIELD = 6 };
 enum { EDITIONS = 2 };
-enum { AMOUNT_DIGITS = 13, MONTHS_DIGITS = 4, CPF_DIGITS = 11, CNPJ_DIGITS = 14 };
+enum { AMOUNT_DIGITS = 13, HEALTH_DIGITS = 9, MONTHS_DIGITS = 4, CPF_DIGITS = 11, CNPJ_DIGITS = 14 };
 
 /* One row of the field tables. */
 typedef struct {

@@ -82,7 +82,7 @@ static const row bpfdec_rows[] = {
     {'C', FIXED, 1, OBLIGATORY, NO_RULE, "S,N"},
 };
 
-/* 3.7, 3.9, 3.11, 3.14 and 3.23, fields 2 and 3: a CNPJ and its name */
+/* 3.7, 3.9, 3.11, 3.14, 3.17 and 3.23, fields 2 and 3: a CNPJ and its name */
 static const row cnpj_rows[] = {
     {'N', FIXED, 14, OBLIGATORY, CNPJ, NULL},
     {'C', VARIABLE, 150, OBLIGATORY, NO_RULE, NULL},
@@ -122,6 +122,17 @@ static const row bpfrra_rows[] = {
     {'C', VARIABLE, 50, OPTIONAL, NO_RULE, NULL},
     {'D', FIXED, 8, OPTIONAL, NO_RULE, NULL},
     {'C', FIXED, 1, OBLIGATORY, NO_RULE, "S,N"},
+};
+
+/* 3.18 and 3.30, field 5 */
+#define RELATION {'N', FIXED, 2, OPTIONAL, NO_RULE, "03,04,06,08,10"}
+
+/* 3.18, fields 2 to 5 */
+static const row infpa_rows[] = {
+    {'N', FIXED, 11, OPTIONAL, CPF, NULL},
+    {'D', FIXED, 8, OPTIONAL, NO_RULE, NULL},
+    {'C', VARIABLE, 60, OBLIGATORY, NO_RULE, NULL},
+    RELATION,
 };
 
 #define MONEY {'N', VARIABLE, AMOUNT_DIGITS, OPTIONAL, AMOUNT, NULL}
@@ -164,6 +175,40 @@ static const row bpjscp_rows[] = {
     {'C', VARIABLE, 4, OPTIONAL, NO_RULE, NULL},
 };
 
+/* The amounts of a health plan have nine digits. */
+#define HEALTH_MONEY(obligation) {'N', VARIABLE, HEALTH_DIGITS, obligation, AMOUNT, NULL}
+
+/* 3.27, fields 2 to 4 */
+static const row opse_rows[] = {
+    {'N', FIXED, 14, OBLIGATORY, CNPJ, NULL},
+    {'C', VARIABLE, 150, OBLIGATORY, NO_RULE, NULL},
+    {'N', FIXED, 6, OPTIONAL, NO_RULE, NULL},
+};
+
+/* 3.28, fields 2 to 4 */
+static const row tpse_rows[] = {
+    {'N', FIXED, 11, OBLIGATORY, CPF, NULL},
+    {'C', VARIABLE, 60, OBLIGATORY, NO_RULE, NULL},
+    HEALTH_MONEY(OBLIGATORY),
+};
+
+/* 3.29 and 3.31, fields 2 to 5 */
+static const row refund_rows[] = {
+    {'N', VARIABLE, 14, OBLIGATORY, CPF_OR_CNPJ, NULL},
+    {'C', VARIABLE, 150, OBLIGATORY, NO_RULE, NULL},
+    HEALTH_MONEY(OPTIONAL),
+    HEALTH_MONEY(OPTIONAL),
+};
+
+/* 3.30, fields 2 to 6 */
+static const row dtpse_rows[] = {
+    {'N', FIXED, 11, OPTIONAL, CPF, NULL},
+    {'D', FIXED, 8, OPTIONAL, NO_RULE, NULL},
+    {'C', VARIABLE, 60, OBLIGATORY, NO_RULE, NULL},
+    RELATION,
+    HEALTH_MONEY(OBLIGATORY),
+};
+
 /* The count of fields and the rows of each edition, shared or its own. */
 #define ROWS(rows) 1 + sizeof (rows) / sizeof *(rows), {rows, rows}
 #define OWN_ROWS(rows) 1 + sizeof *(rows) / sizeof **(rows), {(rows)[0], (rows)[1]}
@@ -195,16 +240,16 @@ const record plain_records[KINDS + 1] = {
     [ESDS] = MONTHLY("ESDS"),
     [ESIR] = MONTHLY("ESIR"),
     [ESDJ] = MONTHLY("ESDJ"),
-    [INFPC] = LEFT("INFPC"),
+    [INFPC] = ONE("INFPC", GROUP, cnpj_rows),
     [RTPP] = MONTHLY("RTPP"),
     [RTFA] = MONTHLY("RTFA"),
     [RTSP] = MONTHLY("RTSP"),
-    [RTEP] = LEFT("RTEP"),
+    [RTEP] = MONTHLY("RTEP"),
     [ESPP] = MONTHLY("ESPP"),
     [ESFA] = MONTHLY("ESFA"),
     [ESSP] = MONTHLY("ESSP"),
-    [ESEP] = LEFT("ESEP"),
-    [INFPA] = LEFT("INFPA"),
+    [ESEP] = MONTHLY("ESEP"),
+    [INFPA] = ONE("INFPA", GROUP, infpa_rows),
     [RTPA] = MONTHLY("RTPA"),
     [ESPA] = MONTHLY("ESPA"),
     [RIDAC] = MONTHLY("RIDAC"),
@@ -238,12 +283,12 @@ const record plain_records[KINDS + 1] = {
     [BPFSCP] = ONE("BPFSCP", BENEFICIARY, bpfscp_rows),
     [RISCP] = MONTHLY("RISCP"),
     [BPJSCP] = ONE("BPJSCP", BENEFICIARY, bpjscp_rows),
-    [PSE] = LEFT("PSE"),
-    [OPSE] = LEFT("OPSE"),
-    [TPSE] = LEFT("TPSE"),
-    [RTPSE] = LEFT("RTPSE"),
-    [DTPSE] = LEFT("DTPSE"),
-    [RDTPSE] = LEFT("RDTPSE"),
+    [PSE] = {"PSE", 3, FIXED, 3, BLOCK, 1, {NULL}},
+    [OPSE] = ONE("OPSE", CODE, opse_rows),
+    [TPSE] = ONE("TPSE", BENEFICIARY, tpse_rows),
+    [RTPSE] = ONE("RTPSE", VALUE, refund_rows),
+    [DTPSE] = ONE("DTPSE", GROUP, dtpse_rows),
+    [RDTPSE] = ONE("RDTPSE", VALUE, refund_rows),
     [RPDE] = LEFT("RPDE"),
     [BRPDE] = LEFT("BRPDE"),
     [VRPDE] = LEFT("VRPDE"),

@@ -7,6 +7,7 @@
 
 #include "test_naive.h"
 #include "test_people.h"
+#include "test_source.h"
 
 #define KIND(n) table[4 * ((n) - 1)]
 #define START(n) table[4 * ((n) - 1) + 1]
@@ -27,6 +28,48 @@ static int is_beneficiary(unsigned kind)
 static int is_block(unsigned kind)
 {
     return is(kind, "FCI") || is(kind, "PROC") || is(kind, "RRA") || is(kind, "SCP");
+}
+
+/* The records of change A3, of which the checker's own rows and pairs are not asked. */
+static int is_of_a3(unsigned kind)
+{
+    return plain_name(kind) != NULL && source_holds("INFPC INFPA RTEP ESEP PSE OPSE TPSE RTPSE DTPSE RDTPSE", plain_name(kind));
+}
+
+/* What stands where in A3, each place by its whole path from the declarant down, * for either declarant. */
+static const struct { const char *path, *children; } places_of_a3[] = {
+    {"*", "PSE"}, {"* PSE", "OPSE"}, {"* PSE OPSE", "TPSE"}, {"* PSE OPSE TPSE", "RTPSE DTPSE"},
+    {"* PSE OPSE TPSE DTPSE", "RDTPSE"}, {"* IDREC BPFDEC", "INFPC INFPA"}, {"* RRA IDREC BPFRRA", "INFPA"},
+    {"* IDREC BPFDEC INFPA", "RTPA ESPA"}, {"* RRA IDREC BPFRRA INFPA", "RTPA"},
+    {"DECPF IDREC BPFDEC INFPC", "RTPP RTFA ESPP ESFA"},
+    {"DECPJ IDREC BPFDEC INFPC", "RTPP RTFA RTSP RTEP ESPP ESFA ESSP ESEP"},
+};
+
+/* Whether the path, read from its end, is that from line n up to the declarant. */
+static int path_is(const uint32_t *table, uint32_t n, const char *path)
+{
+    size_t end = strlen(path);
+    for (uint32_t up = n; up >= 3; up = PARENT(up)) {
+        const char *name = up == 3 && path[0] == '*' ? "*" : plain_name(KIND(up));
+        size_t len = strlen(name);
+        if (len > end || memcmp(path + end - len, name, len) != 0)
+            return 0;
+        end -= len;
+        if (end > 0 && path[end - 1] == ' ')
+            end--;
+    }
+    return end == 0;
+}
+
+/* Whether the kind may stand directly below the record of line n, by A3 in A3's places, else by the base. */
+static int may_be_below(plain_edition edition, const uint32_t *table, uint32_t n, unsigned kind)
+{
+    if (!is_of_a3(kind) && !is_of_a3(KIND(n)))
+        return plain_below(edition, KIND(3), KIND(n), kind);
+    for (size_t i = 0; i < sizeof places_of_a3 / sizeof *places_of_a3; i++)
+        if (path_is(table, n, places_of_a3[i].path) && source_holds(places_of_a3[i].children, plain_name(kind)))
+            return 1;
+    return 0;
 }
 
 static int date_exists(const uint8_t *at)
@@ -85,9 +128,34 @@ plain_edition naive_edition(const uint8_t *file, size_t len)
     return PLAIN_2025;
 }
 
+/* 000's row of a record of A3; read once, as it is asked for very often. */
+static const source_line *printed(unsigned kind, unsigned f)
+{
+    static source_line rows[80][17];
+    static char read[80];
+    for (unsigned i = 1; !read[kind] && i <= 16; i++)
+        rows[kind][i] = source_row(plain_name(kind), i);
+    read[kind] = 1;
+    return &rows[kind][f];
+}
+
+/* The checker's row, or for A3's records the one that 000 prints, with what the nine digits and the fourteen are. */
+static plain_row row_for(plain_edition edition, unsigned kind, unsigned f)
+{
+    if (!is_of_a3(kind))
+        return plain_field_row(edition, kind, f);
+    const source_line *p = printed(kind, f);
+    plain_row r = {.format = p->format, .fixed = p->fixed, .size = p->size, .obligatory = p->obligatory};
+    int digits = p->format == 'N' && !p->fixed;
+    r.values = f == 1 ? plain_name(kind) : p->values[0] ? p->values : NULL;
+    r.amount = digits && (p->size == 9 || p->size == 13);
+    r.cpf_or_cnpj = digits && p->size == 14;
+    return r;
+}
+
 uint32_t naive_field(plain_edition edition, unsigned kind, unsigned f, const uint8_t *at, size_t len)
 {
-    plain_row r = plain_field_row(edition, kind, f);
+    plain_row r = row_for(edition, kind, f);
     if (len == 0)
         return r.obligatory ? 13 : 0;
     for (size_t i = 0; i < len; i++) {
@@ -117,11 +185,11 @@ uint32_t naive_field(plain_edition edition, unsigned kind, unsigned f, const uin
 /* The order in which siblings stand; equal numbers stand in any order. */
 static int order_of(unsigned kind)
 {
-    static const char *const order[] = {"IDREC", "FCI", "PROC", "RRA", "SCP"};
-    for (int i = 0; i < 5; i++)
+    static const char *const order[] = {"IDREC", "FCI", "PROC", "RRA", "SCP", "PSE"};
+    for (int i = 0; i < 6; i++)
         if (is(kind, order[i]))
             return i;
-    return strncmp(plain_name(kind), "BPJ", 3) == 0 ? 1 : 0;
+    return strncmp(plain_name(kind), "BPJ", 3) == 0 || is(kind, "DTPSE") ? 1 : 0;
 }
 
 /* The beneficiaries of the declarant end in DEC, the others in their block's name. */
@@ -143,8 +211,11 @@ static long parent_of(plain_edition edition, const uint32_t *table, uint32_t n, 
              : is(kind, "DECPF") || is(kind, "DECPJ") ? 0 : -1;
     if (is(kind, "FIMDirf"))
         return 0;
+    for (uint32_t m = 4; is(kind, "PSE") && m < n; m++)
+        if (is(KIND(m), "PSE"))
+            return -1;
     for (uint32_t up = n - 1; up >= 3; up = PARENT(up)) {
-        if (!plain_below(edition, KIND(3), KIND(up), kind))
+        if (!may_be_below(edition, table, up, kind))
             continue;
         if (is_beneficiary(kind) && !block_fits(table, up, kind))
             return -1;
@@ -173,6 +244,33 @@ static int key_greater(const uint8_t *file, const uint32_t *table, uint32_t befo
             return l2 > l1;
     }
     return 0;
+}
+
+/* A3's keys as texts: how many fields from 2 on, and a letter F or J before a number that may be of either. */
+static int keys_of_a3(unsigned kind)
+{
+    return is(kind, "INFPC") || is(kind, "OPSE") || is(kind, "TPSE") ? 1 : is(kind, "INFPA") || is(kind, "DTPSE") ? 2
+         : is(kind, "RTPSE") || is(kind, "RDTPSE") ? 3 : 0;
+}
+
+static void key_text(unsigned kind, const uint8_t *line, size_t len, char *out)
+{
+    int shape = keys_of_a3(kind);
+    size_t s, l;
+    plain_field(line, len, 2, &s, &l);
+    out += sprintf(out, "%s%.*s", shape < 3 ? "" : l == 11 ? "F" : "J", (int)l, (const char *)line + s);
+    plain_field(line, len, 3, &s, &l);
+    if (shape == 2)
+        sprintf(out, " %.*s", (int)l, (const char *)line + s);
+}
+
+/* A blank is less than any digit, so the texts stand in the order of the keys. */
+static int text_greater(const uint8_t *file, const uint32_t *table, uint32_t before, size_t start, size_t len, unsigned kind)
+{
+    char a[32], b[32];
+    key_text(kind, file + START(before), LENGTH(before), a);
+    key_text(kind, file + start, len, b);
+    return strcmp(b, a) > 0;
 }
 
 static uint32_t condition(const uint8_t *line, size_t len)
@@ -215,7 +313,10 @@ static breach fields_breach(plain_edition edition, unsigned kind, const uint8_t 
     size_t bars = 0;
     for (size_t i = 0; i < len; i++)
         bars += line[i] == '|';
-    if (bars != plain_fields(edition, kind))
+    unsigned fields = 0;
+    while (is_of_a3(kind) && printed(kind, fields + 1)->format)
+        fields++;
+    if (bars != (is_of_a3(kind) ? fields : plain_fields(edition, kind)))
         return (breach){11, 0};
     for (unsigned f = 1; f <= bars; f++) {
         size_t s, l;
@@ -256,7 +357,7 @@ static breach line_breach(plain_edition edition, const uint8_t *file, uint32_t *
     unsigned kind = kind_named(line, l);
     if (!kind || (edition == PLAIN_2022 && is_newer(kind)))
         return (breach){9, 1};
-    if (!plain_is_base(edition, kind))
+    if (!is_of_a3(kind) && !plain_is_base(edition, kind))
         return (breach){10, 1};
     long parent = parent_of(edition, table, n, kind);
     if (parent < 0)
@@ -268,10 +369,10 @@ static breach line_breach(plain_edition edition, const uint8_t *file, uint32_t *
     for (uint32_t m = 4; parent && m < n; m++)
         if (PARENT(m) == (uint32_t)parent && KIND(m) == kind)
             before = m;
-    int keyed = is_beneficiary(kind) || is_block(kind) || is(kind, "IDREC");
-    if (before && !keyed)
+    int keyed = is_beneficiary(kind) || is_block(kind) || is(kind, "IDREC"), of_a3 = keys_of_a3(kind);
+    if (before && !keyed && !of_a3)
         return (breach){21, 1};
-    if (before && !key_greater(file, table, before, start, len, kind))
+    if (before && !(of_a3 ? text_greater : key_greater)(file, table, before, start, len, kind))
         return (breach){20, 2};
     KIND(n) = kind;
     START(n) = (uint32_t)start;

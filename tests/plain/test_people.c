@@ -46,36 +46,37 @@ size_t people_stand_in(const char *s, char *out)
     return (size_t)used;
 }
 
-/* A name field may hold the word as well, so only the beginning of a part counts. */
-int people_has_scp(const char *records, char between)
+/* A name field may hold the words as well, so only the beginning of a part counts. */
+unsigned people_blocks(const char *records, char between)
 {
+    unsigned blocks = 0;
     for (const char *s = records; s != NULL; s = strchr(s, between), s = s ? s + 1 : NULL)
-        if (strncmp(s, "SCP", 3) == 0 && (s[3] == 0 || s[3] == '|' || s[3] == between))
-            return 1;
-    return 0;
+        if (s[0] != 0 && s[1] != 0 && s[2] != 0 && (s[3] == 0 || s[3] == '|' || s[3] == between))
+            blocks |= strncmp(s, "SCP", 3) == 0 ? PEOPLE_SCP : strncmp(s, "PSE", 3) == 0 ? PEOPLE_PSE : 0;
+    return blocks;
 }
 
 /* 000's 3.3 has the health plan in 6 and SCP in 7, its 3.4 SCP in 6 and the health plan in 10. */
-const char *people_flag(unsigned kind, unsigned f, int scp)
+const char *people_flag(unsigned kind, unsigned f, unsigned blocks)
 {
     if ((kind == DECPF && f == 7) || (kind == DECPJ && f == 6))
-        return scp ? "S" : "N";
+        return blocks & PEOPLE_SCP ? "S" : "N";
     if ((kind == DECPF && f == 6) || (kind == DECPJ && f == 10))
-        return "N";
+        return blocks & PEOPLE_PSE ? "S" : "N";
     return NULL;
 }
 
-void people_declarant(unsigned kind, int scp, const char *rest, char *out)
+void people_declarant(unsigned kind, unsigned blocks, const char *rest, char *out)
 {
     char cpf[PEOPLE_ID], cnpj[PEOPLE_ID];
     people_cpf(111444777, cpf);
     people_cnpj(11222333, cnpj);
     if (kind == DECPF)
-        sprintf(out, "DECPF|%s|ANA LIMA|N|N|%s|%s|%s", cpf, people_flag(kind, 6, scp),
-                people_flag(kind, 7, scp), rest ? rest : "N|||N|||||");
+        sprintf(out, "DECPF|%s|ANA LIMA|N|N|%s|%s|%s", cpf, people_flag(kind, 6, blocks),
+                people_flag(kind, 7, blocks), rest ? rest : "N|||N|||||");
     else
-        sprintf(out, "DECPJ|%s|EMPRESA|0|%s|%s|N|N|N|%s|%s", cnpj, cpf, people_flag(kind, 6, scp),
-                people_flag(kind, 10, scp), rest ? rest : "N|N|N||");
+        sprintf(out, "DECPJ|%s|EMPRESA|0|%s|%s|N|N|N|%s|%s", cnpj, cpf, people_flag(kind, 6, blocks),
+                people_flag(kind, 10, blocks), rest ? rest : "N|N|N||");
 }
 
 void people_lawyer(unsigned lawyer, unsigned f, uint32_t serial, char *out)
@@ -104,12 +105,13 @@ int people_is_lawyer(const char *name, unsigned f)
 
 int people_is_id(const char *name, unsigned f)
 {
-    /* Taken from 000's tables 3.2 to 3.25 and not from the checker's rows, so that a slip in these shows. */
+    /* Taken from 000's tables 3.2 to 3.31 and not from the checker's rows, so that a slip in these shows. */
     static const struct { const char *name; unsigned field; } ids[] = {
         {"RESPO", 2}, {"DECPF", 2}, {"DECPF", 14}, {"DECPJ", 2}, {"DECPJ", 5},
         {"BPFDEC", 2}, {"BPJDEC", 2}, {"FCI", 2}, {"BPFFCI", 2}, {"BPJFCI", 2},
         {"PROC", 5}, {"BPFPROC", 2}, {"BPJPROC", 2}, {"RRA", 5}, {"BPFRRA", 2},
-        {"SCP", 2}, {"BPFSCP", 2}, {"BPJSCP", 2}};
+        {"INFPC", 2}, {"INFPA", 2}, {"SCP", 2}, {"BPFSCP", 2}, {"BPJSCP", 2},
+        {"OPSE", 2}, {"TPSE", 2}, {"RTPSE", 2}, {"DTPSE", 2}, {"RDTPSE", 2}};
     for (size_t i = 0; i < sizeof ids / sizeof *ids; i++)
         if (ids[i].field == f && strcmp(ids[i].name, name) == 0)
             return 1;
@@ -168,7 +170,15 @@ static uint32_t lawyer_wrong(const uint8_t *line, size_t len)
     return number == 11 ? 5 : name >= 151 ? 6 : 0;
 }
 
-typedef struct { char scp, health; int scp_seen; } flags;
+typedef struct { char scp, health; int scp_seen, health_seen; } flags;
+
+/* A block without its flag is wrong at once, a flag without its block when no more can come. */
+static int flags_wrong(const flags *f, int at_end)
+{
+    if ((f->scp_seen && f->scp != 'S') || (f->health_seen && f->health != 'S'))
+        return 1;
+    return at_end && ((f->scp == 'S') != f->scp_seen || (f->health == 'S') != f->health_seen);
+}
 
 /* 0, or the first wrong field of a line whose first fields are taken for right. */
 static uint32_t line_wrong(const uint8_t *line, size_t len, unsigned taken, flags *seen)
@@ -182,10 +192,8 @@ static uint32_t line_wrong(const uint8_t *line, size_t len, unsigned taken, flag
     memcpy(name, line, length < 7 ? length : 7);
     kind = strcmp(name, "DECPF") == 0 ? DECPF : strcmp(name, "DECPJ") == 0 ? DECPJ : 0;
     seen->scp_seen |= strcmp(name, "SCP") == 0;
-    /* A block without its flag is wrong at once, a flag without its block when no more can come. */
-    if (seen->scp_seen && seen->scp != 'S')
-        return 1;
-    if (strcmp(name, "FIMDirf") == 0 && (seen->health != 'N' || (seen->scp == 'S') != seen->scp_seen))
+    seen->health_seen |= strcmp(name, "PSE") == 0;
+    if (flags_wrong(seen, strcmp(name, "FIMDirf") == 0))
         return 1;
     for (unsigned f = 2; f <= taken && plain_field(line, len, f, &start, &length); f++) {
         if (people_is_id(name, f) && length > 0 && !people_right(line + start, length))

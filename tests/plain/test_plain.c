@@ -1,343 +1,17 @@
 /* The tests: the marked examples, every number alone, the order of the numbers,
    the tree, every field row, check digits, lawyers, cuts, rooms, random bytes and
-   changed files, all of it in both editions; then the editions beside each other. */
-#define _DEFAULT_SOURCE                 /* for mmap, which C itself does not have */
+   changed files, all of it in both editions; then the editions beside each other.
+   What change A3 took in has tests of its own in test_groups.c. */
 #include <stdio.h>
 #include <stdlib.h>
 #include <string.h>
-#include <sys/mman.h>
 
-#include "plain.h"
+#include "test_groups.h"
+#include "test_help.h"
 #include "test_naive.h"
-#include "test_people.h"
 #include "test_source.h"
 
-#define UNTOUCHED 0xA5A5A5A5u
-
-static unsigned long cases, wrong;
-static unsigned long given[32];         /* how often each number was seen */
-static plain_edition edition;           /* the one that the tests are run in */
-
-static void is_true(int ok, const char *what, unsigned long a, unsigned long b)
-{
-    cases++;
-    if (!ok && wrong++ < 40)
-        printf("WRONG %s (%lu, %lu)\n", what, a, b);
-}
-
-/* ---- random numbers, the same on every run ---- */
-
-static uint64_t rng = 88172645463325252u;
-
-static uint32_t below_n(uint32_t n)
-{
-    rng ^= rng << 13;
-    rng ^= rng >> 7;
-    rng ^= rng << 17;
-    return (uint32_t)((rng >> 20) % n);
-}
-
-/* ---- a text that grows ---- */
-
-typedef struct { uint8_t *bytes; size_t len, room; } text;
-
-static void add_bytes(text *t, const void *bytes, size_t len)
-{
-    if (t->len + len > t->room) {
-        t->room = 2 * (t->len + len) + 64;
-        t->bytes = realloc(t->bytes, t->room);
-        if (t->bytes == NULL)
-            abort();
-    }
-    if (len > 0)
-        memcpy(t->bytes + t->len, bytes, len);
-    t->len += len;
-}
-
-static void add(text *t, const char *s)
-{
-    add_bytes(t, s, strlen(s));
-}
-
-#define DIRF_LINE "Dirf|{year}|{calendar}|N||{mark}|"
-#define LINE_2025 "Dirf|2025|2024|N||R6GP3ZA|"
-#define LINE_2022 "Dirf|2022|2021|N||XJFSFHB|"
-
-/* Where {year}, {calendar} or {mark} stands at s, the edition's own goes into out; gives the bytes passed over, else 0. */
-static size_t edition_stand_in(const char *s, char *out)
-{
-    static const char *const names[] = {"{year}", "{calendar}", "{mark}"};
-    static const char *const own[][3] = {
-        [PLAIN_2025] = {"2025", "2024", "R6GP3ZA"}, [PLAIN_2022] = {"2022", "2021", "XJFSFHB"}};
-    for (unsigned i = 0; *s == '{' && i < 3; i++)
-        if (strncmp(s, names[i], strlen(names[i])) == 0) {
-            strcpy(out, own[edition][i]);
-            return strlen(names[i]);
-        }
-    return 0;
-}
-
-/* A test's own text; {cpf 7} and {cnpj 7} in it stand for the numbers of serial 7, {year} and the like for the edition's. */
-static void add_text(text *t, const char *s)
-{
-    while (*s) {
-        char word[PEOPLE_ID];
-        size_t used = people_stand_in(s, word);
-        if (used == 0)
-            used = edition_stand_in(s, word);
-        if (used > 0)
-            add(t, word);
-        else
-            add_bytes(t, s, 1);
-        s += used ? used : 1;
-    }
-}
-
-static void add_line(text *t, const char *s)
-{
-    add_text(t, s);
-    add(t, "\r\n");
-}
-
-static void drop(text *t)
-{
-    free(t->bytes);
-    *t = (text){0};
-}
-
-static void splice(text *t, size_t start, size_t end, const void *with, size_t len)
-{
-    text out = {0};
-    add_bytes(&out, t->bytes, start);
-    add_bytes(&out, with, len);
-    add_bytes(&out, t->bytes + end, t->len - end);
-    drop(t);
-    *t = out;
-}
-
-/* ---- one run of the check, compared in every way ---- */
-
-static void *exact_copy(const void *bytes, size_t len)
-{
-    void *copy = malloc(len ? len : 1);
-    if (copy == NULL)
-        abort();
-    if (len > 0)
-        memcpy(copy, bytes, len);
-    return copy;
-}
-
-/* Bytes that end where readable memory ends: a look at the byte after them stops the tests. The next copy takes their place. */
-static uint8_t *edge_copy(const void *bytes, size_t len)
-{
-    enum { HALF = 1 << 17 };            /* whole pages on every usual machine */
-    static uint8_t *area;
-    if (area == NULL) {
-        area = mmap(NULL, 2 * HALF, PROT_READ | PROT_WRITE, MAP_PRIVATE | MAP_ANONYMOUS, -1, 0);
-        if (area == MAP_FAILED || mprotect(area + HALF, HALF, PROT_NONE) != 0)
-            abort();
-    }
-    if (len > HALF)
-        abort();
-    if (len > 0)
-        memcpy(area + HALF - len, bytes, len);
-    return area + HALF - len;
-}
-
-static int equal(plain_answer a, plain_answer b)
-{
-    return a.number == b.number && a.line == b.line && a.field == b.field
-        && a.entries == b.entries;
-}
-
-static size_t count_lf(const uint8_t *bytes, size_t len)
-{
-    size_t n = 0;
-    for (size_t i = 0; i < len; i++)
-        n += bytes[i] == '\n';
-    return n;
-}
-
-/* Answers alike with and without a table, with nothing else touched. */
-static plain_answer run_plain(const uint8_t *bytes, size_t len, size_t room,
-                              uint32_t *entries)
-{
-    size_t numbers = 4 * room + below_n(4);
-    uint8_t *file = exact_copy(bytes, len);
-    uint32_t *table = malloc(numbers * 4 + 1);
-    for (size_t i = 0; i < numbers; i++)
-        table[i] = UNTOUCHED;
-    plain_answer a = plain_check(file, len, table, numbers);
-    is_true(equal(a, plain_check_room(file, len, room)), "room alike", a.number, a.line);
-    is_true(a.number ? a.entries + 1 == a.line : a.entries == a.line,
-            "entries", a.number, a.entries);
-    is_true(a.entries <= room, "entries within room", a.entries, room);
-    int kept = len == 0 || memcmp(file, bytes, len) == 0;
-    for (size_t i = 4 * a.entries; i < numbers; i++)
-        kept = kept && table[i] == UNTOUCHED;
-    is_true(kept, "nothing else touched", a.number, a.line);
-    if (entries != NULL && a.entries <= room && a.entries > 0)
-        memcpy(entries, table, 16 * a.entries);
-    if (a.number < 32)
-        given[a.number]++;
-    free(table);
-    free(file);
-    return a;
-}
-
-static plain_answer run(const uint8_t *bytes, size_t len, size_t room)
-{
-    size_t lines = count_lf(bytes, len) + 2;
-    uint32_t *slow = calloc(lines, 16), *quick = calloc(lines, 16);
-    plain_answer a = run_plain(bytes, len, room < lines ? room : lines, quick);
-    plain_answer b = naive_check(bytes, len, slow, room);
-    is_true(plain_edition_of(bytes, len) == naive_edition(bytes, len), "edition as the slow reading", a.number, a.line);
-    is_true(equal(a, b), "as the slow reading", a.number * 100000ul + a.line,
-            b.number * 100000ul + b.line);
-    is_true(memcmp(slow, quick, 16 * (a.entries < lines ? a.entries : 0)) == 0,
-            "table as the slow reading", a.entries, a.line);
-    free(slow);
-    free(quick);
-    return a;
-}
-
-/* All that a test takes for right is so in its numbers, lawyers and flags too, else another rule would speak first, now or later. */
-static void is_right(const char *what, const text *t, plain_answer wanted)
-{
-    people_spot spot = people_wrong(t->bytes, t->len, wanted);
-    is_true(spot.line == 0, "check digits, lawyers and flags", spot.line, spot.field);
-    if (spot.line != 0 && wrong <= 40)
-        printf("   in %s, line and field above\n", what);
-}
-
-static void expect_room(const char *what, const text *t, size_t room, uint32_t number,
-                        uint32_t line, uint32_t field)
-{
-    plain_answer a = run(t->bytes, t->len, room);
-    size_t entries = number ? line - 1 : line;
-    int ok = equal(a, (plain_answer){number, line, field, entries});
-    is_right(what, t, (plain_answer){number, line, field, entries});
-    is_true(ok, what, number, line);
-    if (!ok)
-        printf("   got %u %u %u %zu, wanted %u %u %u %zu\n", a.number, a.line,
-               a.field, a.entries, number, line, field, entries);
-}
-
-static void expect(const char *what, const text *t, uint32_t number, uint32_t line,
-                   uint32_t field)
-{
-    expect_room(what, t, 3000, number, line, field);
-}
-
-/* ---- parts of files ---- */
-
-#define RESPO_LINE "RESPO|11144477735|ANA LIMA|11|33334444||||"
-#define DESK_DECPF_LINE "DECPF|11144477735|ANA LIMA|N|N|N|S|N|||N|||||"
-#define FOURTEEN(id) id "|1||||||||||||9999999999999|"
-
-static void add_declarant(text *t, unsigned kind, int scp, const char *rest)
-{
-    char line[PEOPLE_LINE];
-    people_declarant(kind, scp, rest, line);
-    add_line(t, line);
-}
-
-/* Lines 1 to 3 of a declaration with or without an SCP block. */
-static text head(unsigned declarant, int scp)
-{
-    text t = {0};
-    add_line(&t, DIRF_LINE);
-    add_line(&t, RESPO_LINE);
-    add_declarant(&t, declarant, scp, NULL);
-    return t;
-}
-
-/* Document 01's file as printed, by no maker, with line n changed where n is not 0; the older edition has its own line 1. */
-static text desk_changed(unsigned n, const char *line)
-{
-    const char *const printed[] = {edition == PLAIN_2025 ? LINE_2025 : LINE_2022, RESPO_LINE, DESK_DECPF_LINE,
-        "SCP|11222333000181|SCP SERRA|", "BPFSCP|11144477735|ANA LIMA||", "FIMDirf|"};
-    text t = {0};
-    for (unsigned i = 1; i <= 6; i++)
-        add_line(&t, i == n ? line : printed[i - 1]);
-    return t;
-}
-
-static text desk_example(void)
-{
-    return desk_changed(0, NULL);
-}
-
-static void expect_desk(const char *what, unsigned n, const char *changed, uint32_t number,
-                        uint32_t line, uint32_t field)
-{
-    text t = desk_changed(n, changed);
-    expect(what, &t, number, line, field);
-    drop(&t);
-}
-
-/* Lines joined by a line feed sign ~ after a head; each gets its CR LF. */
-static void expect_after(const char *what, unsigned declarant, const char *lines,
-                         uint32_t number, uint32_t line, uint32_t field)
-{
-    text t = head(declarant, people_has_scp(lines, '~'));
-    for (const char *s = lines; *s; s += strcspn(s, "~") + (s[strcspn(s, "~")] != 0)) {
-        char one[PEOPLE_LINE];
-        sprintf(one, "%.*s", (int)strcspn(s, "~"), s);
-        add_line(&t, one);
-    }
-    expect(what, &t, number, line, field);
-    drop(&t);
-}
-
-/* A declaration without a block: lines 1 and 2, or the declarant's last fields, may be given. */
-static void expect_short(const char *what, const char *l1, const char *l2, unsigned kind, const char *rest,
-                         plain_answer wanted)
-{
-    text t = {0};
-    add_line(&t, l1 ? l1 : DIRF_LINE);
-    add_line(&t, l2 ? l2 : RESPO_LINE);
-    add_declarant(&t, kind, 0, rest);
-    add_line(&t, "FIMDirf|");
-    expect(what, &t, wanted.number, wanted.line, wanted.field);
-    drop(&t);
-}
-
-static void expect_head(const char *what, const char *l1, const char *l2, uint32_t number,
-                        uint32_t line, uint32_t field)
-{
-    expect_short(what, l1, l2, DECPF, NULL, (plain_answer){number, line, field, 0});
-}
-
-static void expect_declarant(const char *what, unsigned kind, const char *rest, uint32_t number,
-                             uint32_t line, uint32_t field)
-{
-    expect_short(what, NULL, NULL, kind, rest, (plain_answer){number, line, field, 0});
-}
-
-static void expect_bytes(const char *what, const char *s, uint32_t number, uint32_t line,
-                         uint32_t field)
-{
-    text t = {0};
-    add_text(&t, s);
-    expect(what, &t, number, line, field);
-    drop(&t);
-}
-
 /* ---- the makers ---- */
-
-static void good_id(size_t len, unsigned serial, char *out)
-{
-    if (len == 14)
-        people_cnpj(serial, out);
-    else
-        people_cpf(serial, out);
-}
-
-static int id_right(const char *id)
-{
-    return people_right((const uint8_t *)id, strlen(id));
-}
 
 /* Of the hundred endings of a number only the maker's own is right. */
 static int only_right(const char *id)
@@ -407,6 +81,9 @@ static void test_spoiled(void)
         {PF("N", "N"), "IDREC|0561|", 0, 5, 0, {0, 0}}, {PJ("N", "N"), "IDREC|0561|", 0, 5, 0, {0, 0}},
         {PF("N", "S"), "SCP|{cnpj 1}|A|", 0, 5, 0, {0, 0}}, {PJ("S", "N"), "SCP|{cnpj 1}|A|", 0, 5, 0, {0, 0}},
         {PF("N", "N"), "SCP|{cnpj 1}|A|", 0, 5, 0, {4, 1}}, {PJ("N", "N"), "SCP|{cnpj 1}|A|", 0, 5, 0, {4, 1}},
+        {PF("S", "N"), "PSE|", 0, 5, 0, {0, 0}}, {PJ("N", "S"), "PSE|", 0, 5, 0, {0, 0}},
+        {PF("N", "S"), "PSE|", 0, 5, 0, {4, 1}}, {PJ("S", "N"), "PSE|", 0, 5, 0, {4, 1}},
+        {PF("S", "S"), "PSE|", 0, 5, 0, {5, 1}}, {PF("N", "N"), "PSE|", 12, 4, 1, {0, 0}},
         {PF("N", "S"), "IDREC|0561|", 0, 5, 0, {5, 1}}, {PJ("S", "N"), "IDREC|0561|", 0, 5, 0, {5, 1}},
         {PF("S", "N"), "IDREC|0561|", 0, 5, 0, {5, 1}}, {PJ("N", "S"), "IDREC|0561|", 0, 5, 0, {5, 1}},
         {PF("N", "S"), "IDREC|0561|", 7, 5, 0, {5, 1}}, {PF("N", "S"), "IDREC|0561|", 1, 5, 0, {0, 0}},
@@ -445,8 +122,6 @@ static void test_spoiled_lawyers(void)
 
 /* ---- M1 to M12 ---- */
 
-static plain_written write_fields(unsigned kind, const char *joined, uint8_t *out, size_t room);
-
 static void test_marked(void)
 {
     text t = {0};
@@ -482,8 +157,6 @@ static void test_marked(void)
 }
 
 /* ---- every number alone ---- */
-
-#define BPF "IDREC|0561|~BPFDEC|11144477735|A||N|N|"
 
 static void test_lines_alone(void)
 {
@@ -530,8 +203,8 @@ static void test_records_alone(void)
     expect_after("9 shorter", DECPJ, "FIMDir|", 9, 4, 1);
     expect_after("9 case", DECPJ, "fimdirf|", 9, 4, 1);
     expect_after("9 blank", DECPJ, " FIMDirf|", 9, 4, 1);
-    expect_after("10", DECPJ, "INFPC|11222333000181|X|", 10, 4, 1);
-    expect_after("10 RTEP", DECPJ, BPF "~" FOURTEEN("RTEP"), 10, 6, 1);
+    expect_after("10", DECPJ, "VPEIM|11222333000181|X|", 10, 4, 1);
+    expect_after("10 RIMUN", DECPJ, BPF "~" FOURTEEN("RIMUN"), 10, 6, 1);
     expect_after("12 by line 4", DECPJ, DIRF_LINE, 12, 4, 1);
     expect_after("12 FCI under DECPF", DECPF, "FCI|11222333000181|X|", 12, 4, 1);
     expect_after("11 few", DECPJ, "IDREC|", 11, 4, 0);
@@ -553,7 +226,6 @@ static void test_records_alone(void)
     expect_head("recibo passes", "Dirf|{year}|{calendar}|S|000000000000|{mark}|", NULL, 0, 4, 0);
     expect_head("15 recibo", "Dirf|{year}|{calendar}|S|00000000000|{mark}|", NULL, 15, 1, 5);
 }
-
 
 static void test_conditions_alone(void)
 {
@@ -675,7 +347,7 @@ static void test_order_of_lines(void)
     longest[1025] = 0;
     text t = desk_example();
     size_t len = t.len;
-    const char *const tails[] = {"\r", "\n", "x", "\r\n", "INFPC|\r\n", longest};
+    const char *const tails[] = {"\r", "\n", "x", "\r\n", "RPDE|\r\n", longest};
     for (unsigned i = 0; i < 6; i++) {
         t.len = len;
         add(&t, tails[i]);
@@ -692,11 +364,11 @@ static void test_order_of_lines(void)
     expect_bytes("6 before 8", "xx\n", 6, 1, 0);
     expect_bytes("6 before 9", "xx|\n", 6, 1, 0);
     expect_bytes("8 before 9", "xx\r\n", 8, 1, 0);
-    expect_bytes("8 before 10", "INFPC\r\n", 8, 1, 0);
+    expect_bytes("8 before 10", "VPEIM\r\n", 8, 1, 0);
     expect_bytes("8 before 11", "Dirf\r\n", 8, 1, 0);
     expect_bytes("8 before 12", "RESPO|x\r\n", 8, 1, 0);
     expect_bytes("9 before 12 and 11", "xx||\r\n", 9, 1, 1);
-    expect_bytes("10 before 12 and 11", "INFPC||\r\n", 10, 1, 1);
+    expect_bytes("10 before 12 and 11", "RPDE||\r\n", 10, 1, 1);
     expect_bytes("10 before 12", "VPEIM|11222333000181|A|\r\n", 10, 1, 1);
     expect_bytes("12 before 11", "RESPO|\r\n", 12, 1, 1);
     expect_bytes("12 before 13", "IDREC||\r\n", 12, 1, 1);
@@ -776,98 +448,9 @@ static void test_seven_is_last(void)
     drop(&t);
 }
 
-/* ---- good contents for every field ---- */
-
-/* A good content of field f, with room for 150 bytes and a 0; a declarant without an SCP block. */
-static void good_field(unsigned kind, unsigned f, unsigned serial, char *out)
-{
-    plain_row r = plain_field_row(edition, kind, f);
-    const char *name = plain_name(kind), *flag = people_flag(kind, f, 0);
-    if (flag != NULL)
-        strcpy(out, flag);
-    else if (people_is_id(name, f))
-        good_id(r.fixed ? r.size : 11, serial, out);
-    else if (kind == DECPF && f == 8)
-        strcpy(out, "N");
-    else if ((strcmp(name, "PROC") == 0 || strcmp(name, "RRA") == 0) && f == 3)
-        sprintf(out, "%08u", serial);
-    else if (r.values != NULL)
-        sprintf(out, "%.*s", (int)strcspn(r.values, ","), r.values);
-    else if (r.format == 'D')
-        strcpy(out, "20240229");
-    else if (r.ddd)
-        strcpy(out, "11");
-    else if (r.telephone)
-        strcpy(out, "33334444");
-    else if (r.format == 'N' && r.fixed)
-        sprintf(out, "%0*u", (int)r.size, serial);
-    else
-        strcpy(out, r.format == 'N' ? "1" : "A");
-}
-
-static void good_line(unsigned kind, unsigned serial, char *out)
-{
-    out[0] = 0;
-    for (unsigned f = 1; f <= plain_fields(edition, kind); f++) {
-        char field[160];
-        good_field(kind, f, serial, field);
-        strcat(out, field);
-        strcat(out, "|");
-    }
-}
-
-/* Cuts a text at its bars and gives it to the line writer. */
-static plain_written write_fields(unsigned kind, const char *joined, uint8_t *out, size_t room)
-{
-    uint8_t contents[2048];
-    size_t lengths[64], fields = 0, len = 0;
-    for (const char *s = joined; *s; s += strcspn(s, "|") + 1) {
-        lengths[fields] = strcspn(s, "|");
-        memcpy(contents + len, s, lengths[fields]);
-        len += lengths[fields++];
-    }
-    uint8_t *c = exact_copy(contents, len);
-    size_t *l = exact_copy(lengths, fields * sizeof *lengths);
-    plain_written w = plain_write_line(edition, kind, c, len, l, fields, out, room);
-    free(c);
-    free(l);
-    if (w.number < 32)
-        given[w.number]++;
-    return w;
-}
-
 /* ---- the tree ---- */
 
-static unsigned named(const char *name)
-{
-    for (unsigned k = 1; k <= plain_kinds(); k++)
-        if (strcmp(plain_name(k), name) == 0)
-            return k;
-    return 0;
-}
-
-/* A file that runs down a path of names, serial 1 for each of them; next is what the test will add. */
-static text path_file(unsigned declarant, const char *path, const char *next, uint32_t *lines)
-{
-    text t = head(declarant, people_has_scp(path, ' ') || people_has_scp(next, ' '));
-    char line[512], name[16];
-    int used;
-    *lines = 3;
-    for (const char *s = path; sscanf(s, "%15s%n", name, &used) == 1; s += used) {
-        good_line(named(name), 1, line);
-        add_line(&t, line);
-        ++*lines;
-    }
-    return t;
-}
-
-/* The two records that the older edition does not know. */
-static int lacking(const char *name)
-{
-    return edition == PLAIN_2022 && source_holds("RTDS ESDS", name);
-}
-
-/* After a path, exactly the named kinds and the beneficiary's values may stand. */
+/* After a path, exactly the named kinds and what the beneficiary or its group has below it may stand. */
 static void test_path(unsigned declarant, const char *path, const char *beneficiary,
                       const char *may)
 {
@@ -876,6 +459,7 @@ static void test_path(unsigned declarant, const char *path, const char *benefici
         uint32_t lines;
         const char *name = plain_name(kind);
         int value = plain_below(edition, declarant, named(beneficiary), kind);
+        int repeated = value && source_holds(path, name) && !source_holds("INFPC INFPA RTPSE DTPSE RDTPSE", name);
         text t = path_file(declarant, path, name, &lines);
         good_line(kind, 2, line);
         add_line(&t, plain_is_base(edition, kind) ? line : strcat(strcpy(line, name), "|"));
@@ -886,66 +470,81 @@ static void test_path(unsigned declarant, const char *path, const char *benefici
         else if (strcmp(name, "FIMDirf") == 0)
             expect(name, &t, 0, lines + 1, 0);
         else
-            expect(name, &t, value && source_holds(path, name) ? 21 : 1,
-                   lines + (value && source_holds(path, name) ? 1 : 2),
-                   value && source_holds(path, name));
+            expect(name, &t, repeated ? 21 : 1, lines + (repeated ? 1 : 2), repeated);
         drop(&t);
     }
+}
+
+static void test_path_pse(unsigned d)
+{
+    test_path(d, "PSE", "PSE", "FIMDirf");
+    test_path(d, "SCP BPFSCP RISCP PSE", "PSE", "FIMDirf");
+    test_path(d, "IDREC BPFDEC RTRT PSE OPSE", "OPSE", "OPSE FIMDirf");
+    test_path(d, "PSE OPSE TPSE", "TPSE", "OPSE TPSE FIMDirf");
+    test_path(d, "PSE OPSE TPSE RTPSE", "TPSE", "OPSE TPSE FIMDirf");
+    test_path(d, "PSE OPSE TPSE DTPSE", "DTPSE", "DTPSE OPSE TPSE FIMDirf");
+    test_path(d, "PSE OPSE TPSE RTPSE DTPSE RDTPSE", "DTPSE", "DTPSE OPSE TPSE FIMDirf");
 }
 
 static void test_tree_decpf(void)
 {
     unsigned d = DECPF;
-    test_path(d, "", "", "IDREC RRA SCP FIMDirf");
-    test_path(d, "IDREC", "", "IDREC BPFDEC BPJDEC RRA SCP FIMDirf");
-    test_path(d, "IDREC BPFDEC", "BPFDEC", "IDREC BPFDEC BPJDEC RRA SCP FIMDirf");
-    test_path(d, "IDREC BPFDEC RTRT", "BPFDEC", "IDREC BPFDEC BPJDEC RRA SCP FIMDirf");
-    test_path(d, "IDREC BPFDEC RIO RTRT", "BPFDEC", "IDREC BPFDEC BPJDEC RRA SCP FIMDirf");
-    test_path(d, "IDREC BPJDEC", "BPJDEC", "IDREC BPJDEC RRA SCP FIMDirf");
-    test_path(d, "IDREC BPFDEC BPJDEC", "BPJDEC", "IDREC BPJDEC RRA SCP FIMDirf");
-    test_path(d, "IDREC BPJDEC RTIRF", "BPJDEC", "IDREC BPJDEC RRA SCP FIMDirf");
-    test_path(d, "RRA", "", "IDREC RRA SCP FIMDirf");
-    test_path(d, "IDREC BPFDEC RRA", "", "IDREC RRA SCP FIMDirf");
-    test_path(d, "RRA IDREC", "", "IDREC BPFRRA RRA SCP FIMDirf");
-    test_path(d, "RRA IDREC BPFRRA", "BPFRRA", "IDREC BPFRRA RRA SCP FIMDirf");
-    test_path(d, "RRA IDREC BPFRRA QTMESES", "BPFRRA", "IDREC BPFRRA RRA SCP FIMDirf");
-    test_path(d, "SCP", "", "SCP BPFSCP BPJSCP FIMDirf");
-    test_path(d, "IDREC BPFDEC SCP", "", "SCP BPFSCP BPJSCP FIMDirf");
-    test_path(d, "RRA IDREC BPFRRA SCP", "", "SCP BPFSCP BPJSCP FIMDirf");
-    test_path(d, "SCP BPFSCP", "BPFSCP", "SCP BPFSCP BPJSCP FIMDirf");
-    test_path(d, "SCP BPFSCP RISCP", "BPFSCP", "SCP BPFSCP BPJSCP FIMDirf");
-    test_path(d, "SCP BPJSCP", "BPJSCP", "SCP BPJSCP FIMDirf");
-    test_path(d, "SCP BPJSCP RISCP", "BPJSCP", "SCP BPJSCP FIMDirf");
+    test_path(d, "", "", "IDREC RRA SCP PSE FIMDirf");
+    test_path(d, "IDREC", "", "IDREC BPFDEC BPJDEC RRA SCP PSE FIMDirf");
+    test_path(d, "IDREC BPFDEC", "BPFDEC", "IDREC BPFDEC BPJDEC RRA SCP PSE FIMDirf");
+    test_path(d, "IDREC BPFDEC RTRT", "BPFDEC", "IDREC BPFDEC BPJDEC RRA SCP PSE FIMDirf");
+    test_path(d, "IDREC BPFDEC RIO RTRT", "BPFDEC", "IDREC BPFDEC BPJDEC RRA SCP PSE FIMDirf");
+    test_path(d, "IDREC BPJDEC", "BPJDEC", "IDREC BPJDEC RRA SCP PSE FIMDirf");
+    test_path(d, "IDREC BPFDEC BPJDEC", "BPJDEC", "IDREC BPJDEC RRA SCP PSE FIMDirf");
+    test_path(d, "IDREC BPJDEC RTIRF", "BPJDEC", "IDREC BPJDEC RRA SCP PSE FIMDirf");
+    test_path(d, "RRA", "", "IDREC RRA SCP PSE FIMDirf");
+    test_path(d, "IDREC BPFDEC RRA", "", "IDREC RRA SCP PSE FIMDirf");
+    test_path(d, "RRA IDREC", "", "IDREC BPFRRA RRA SCP PSE FIMDirf");
+    test_path(d, "RRA IDREC BPFRRA", "BPFRRA", "IDREC BPFRRA RRA SCP PSE FIMDirf");
+    test_path(d, "RRA IDREC BPFRRA QTMESES", "BPFRRA", "IDREC BPFRRA RRA SCP PSE FIMDirf");
+    test_path(d, "SCP", "", "SCP BPFSCP BPJSCP PSE FIMDirf");
+    test_path(d, "IDREC BPFDEC SCP", "", "SCP BPFSCP BPJSCP PSE FIMDirf");
+    test_path(d, "RRA IDREC BPFRRA SCP", "", "SCP BPFSCP BPJSCP PSE FIMDirf");
+    test_path(d, "SCP BPFSCP", "BPFSCP", "SCP BPFSCP BPJSCP PSE FIMDirf");
+    test_path(d, "SCP BPFSCP RISCP", "BPFSCP", "SCP BPFSCP BPJSCP PSE FIMDirf");
+    test_path(d, "SCP BPJSCP", "BPJSCP", "SCP BPJSCP PSE FIMDirf");
+    test_path(d, "SCP BPJSCP RISCP", "BPJSCP", "SCP BPJSCP PSE FIMDirf");
+    test_path(d, "IDREC BPFDEC INFPC RTRT", "BPFDEC", "IDREC BPFDEC BPJDEC RRA SCP PSE FIMDirf");
+    test_path(d, "RRA IDREC BPFRRA INFPA RTPA QTMESES", "BPFRRA", "IDREC BPFRRA RRA SCP PSE FIMDirf");
+    test_path_pse(d);
 }
 
 static void test_tree_decpj(void)
 {
     unsigned d = DECPJ;
-    test_path(d, "", "", "IDREC FCI PROC RRA SCP FIMDirf");
-    test_path(d, "IDREC", "", "IDREC BPFDEC BPJDEC FCI PROC RRA SCP FIMDirf");
-    test_path(d, "IDREC BPFDEC", "BPFDEC", "IDREC BPFDEC BPJDEC FCI PROC RRA SCP FIMDirf");
-    test_path(d, "IDREC BPFDEC RIMOG", "BPFDEC", "IDREC BPFDEC BPJDEC FCI PROC RRA SCP FIMDirf");
-    test_path(d, "IDREC BPJDEC", "BPJDEC", "IDREC BPJDEC FCI PROC RRA SCP FIMDirf");
-    test_path(d, "FCI", "", "IDREC FCI PROC RRA SCP FIMDirf");
-    test_path(d, "FCI IDREC", "", "IDREC BPFFCI BPJFCI FCI PROC RRA SCP FIMDirf");
+    test_path(d, "", "", "IDREC FCI PROC RRA SCP PSE FIMDirf");
+    test_path(d, "IDREC", "", "IDREC BPFDEC BPJDEC FCI PROC RRA SCP PSE FIMDirf");
+    test_path(d, "IDREC BPFDEC", "BPFDEC", "IDREC BPFDEC BPJDEC FCI PROC RRA SCP PSE FIMDirf");
+    test_path(d, "IDREC BPFDEC RIMOG", "BPFDEC", "IDREC BPFDEC BPJDEC FCI PROC RRA SCP PSE FIMDirf");
+    test_path(d, "IDREC BPJDEC", "BPJDEC", "IDREC BPJDEC FCI PROC RRA SCP PSE FIMDirf");
+    test_path(d, "FCI", "", "IDREC FCI PROC RRA SCP PSE FIMDirf");
+    test_path(d, "FCI IDREC", "", "IDREC BPFFCI BPJFCI FCI PROC RRA SCP PSE FIMDirf");
     test_path(d, "IDREC FCI IDREC BPFFCI", "BPFFCI",
-              "IDREC BPFFCI BPJFCI FCI PROC RRA SCP FIMDirf");
-    test_path(d, "FCI IDREC BPJFCI", "BPJFCI", "IDREC BPJFCI FCI PROC RRA SCP FIMDirf");
-    test_path(d, "PROC", "", "IDREC PROC RRA SCP FIMDirf");
-    test_path(d, "FCI IDREC PROC", "", "IDREC PROC RRA SCP FIMDirf");
-    test_path(d, "PROC IDREC", "", "IDREC BPFPROC BPJPROC PROC RRA SCP FIMDirf");
-    test_path(d, "PROC IDREC BPFPROC", "BPFPROC", "IDREC BPFPROC BPJPROC PROC RRA SCP FIMDirf");
+              "IDREC BPFFCI BPJFCI FCI PROC RRA SCP PSE FIMDirf");
+    test_path(d, "FCI IDREC BPJFCI", "BPJFCI", "IDREC BPJFCI FCI PROC RRA SCP PSE FIMDirf");
+    test_path(d, "PROC", "", "IDREC PROC RRA SCP PSE FIMDirf");
+    test_path(d, "FCI IDREC PROC", "", "IDREC PROC RRA SCP PSE FIMDirf");
+    test_path(d, "PROC IDREC", "", "IDREC BPFPROC BPJPROC PROC RRA SCP PSE FIMDirf");
+    test_path(d, "PROC IDREC BPFPROC", "BPFPROC", "IDREC BPFPROC BPJPROC PROC RRA SCP PSE FIMDirf");
     test_path(d, "PROC IDREC BPFPROC RTPA", "BPFPROC",
-              "IDREC BPFPROC BPJPROC PROC RRA SCP FIMDirf");
-    test_path(d, "PROC IDREC BPJPROC", "BPJPROC", "IDREC BPJPROC PROC RRA SCP FIMDirf");
-    test_path(d, "PROC IDREC BPJPROC RIRSR", "BPJPROC", "IDREC BPJPROC PROC RRA SCP FIMDirf");
-    test_path(d, "RRA", "", "IDREC RRA SCP FIMDirf");
-    test_path(d, "RRA IDREC", "", "IDREC BPFRRA RRA SCP FIMDirf");
-    test_path(d, "RRA IDREC BPFRRA", "BPFRRA", "IDREC BPFRRA RRA SCP FIMDirf");
-    test_path(d, "SCP", "", "SCP BPFSCP BPJSCP FIMDirf");
-    test_path(d, "SCP BPFSCP", "BPFSCP", "SCP BPFSCP BPJSCP FIMDirf");
-    test_path(d, "SCP BPJSCP", "BPJSCP", "SCP BPJSCP FIMDirf");
-    test_path(d, "IDREC FCI PROC RRA SCP BPFSCP", "BPFSCP", "SCP BPFSCP BPJSCP FIMDirf");
+              "IDREC BPFPROC BPJPROC PROC RRA SCP PSE FIMDirf");
+    test_path(d, "PROC IDREC BPJPROC", "BPJPROC", "IDREC BPJPROC PROC RRA SCP PSE FIMDirf");
+    test_path(d, "PROC IDREC BPJPROC RIRSR", "BPJPROC", "IDREC BPJPROC PROC RRA SCP PSE FIMDirf");
+    test_path(d, "RRA", "", "IDREC RRA SCP PSE FIMDirf");
+    test_path(d, "RRA IDREC", "", "IDREC BPFRRA RRA SCP PSE FIMDirf");
+    test_path(d, "RRA IDREC BPFRRA", "BPFRRA", "IDREC BPFRRA RRA SCP PSE FIMDirf");
+    test_path(d, "SCP", "", "SCP BPFSCP BPJSCP PSE FIMDirf");
+    test_path(d, "SCP BPFSCP", "BPFSCP", "SCP BPFSCP BPJSCP PSE FIMDirf");
+    test_path(d, "SCP BPJSCP", "BPJSCP", "SCP BPJSCP PSE FIMDirf");
+    test_path(d, "IDREC FCI PROC RRA SCP BPFSCP", "BPFSCP", "SCP BPFSCP BPJSCP PSE FIMDirf");
+    test_path(d, "IDREC BPFDEC INFPC ESEP RTRT", "BPFDEC", "IDREC BPFDEC BPJDEC FCI PROC RRA SCP PSE FIMDirf");
+    test_path(d, "RRA IDREC BPFRRA INFPA RTPA RIMOG", "BPFRRA", "IDREC BPFRRA RRA SCP PSE FIMDirf");
+    test_path_pse(d);
 }
 
 /* Kinds and parents out of the table, in words. */
@@ -1020,7 +619,8 @@ static const char *path_to(unsigned kind, unsigned *declarant)
 {
     static const char *const paths[] = {"", "IDREC", "IDREC BPFDEC", "FCI IDREC",
         "FCI IDREC BPFFCI", "PROC IDREC", "PROC IDREC BPFPROC", "RRA IDREC",
-        "RRA IDREC BPFRRA", "SCP", "SCP BPFSCP"};
+        "RRA IDREC BPFRRA", "SCP", "SCP BPFSCP", "IDREC BPFDEC INFPC", "PSE", "PSE OPSE", "PSE OPSE TPSE",
+        "PSE OPSE TPSE DTPSE"};
     *declarant = DECPJ;
     for (unsigned i = 0; kind > 4 && i < sizeof paths / sizeof *paths; i++) {
         uint32_t lines;
@@ -1105,14 +705,6 @@ static void test_field_value(unsigned kind, unsigned f, const char *value, uint3
     else
         expect(plain_name(kind), &t, 1, lines + 2, 0);
     drop(&t);
-}
-
-static char *many(char c, size_t n)
-{
-    static char out[512];
-    memset(out, c, n);
-    out[n] = 0;
-    return out;
 }
 
 static void test_sizes(unsigned kind, unsigned f, plain_row r)
@@ -1207,8 +799,8 @@ static void test_every_row(void)
         longest = length > longest ? length : longest;
     }
     is_true(plain_kinds() == 73, "73 kinds", plain_kinds(), 0);
-    is_true(base == (edition == PLAIN_2025 ? 56 : 54), "56 or 54 in the base", base, 0);
-    is_true(rows == (edition == PLAIN_2025 ? 561 : 533), "561 or 533 rows", rows, 0);
+    is_true(base == (edition == PLAIN_2025 ? 66 : 64), "66 or 64 taken in", base, 0);
+    is_true(rows == (edition == PLAIN_2025 ? 622 : 594), "622 or 594 rows", rows, 0);
     is_true(longest == 211, "longest line 211", longest, 0);
 }
 
@@ -1344,26 +936,13 @@ static void test_field_reader(void)
 
 /* ---- the line writer ---- */
 
-static void expect_written(const char *what, unsigned kind, const char *fields, uint32_t number,
-                           uint32_t field)
-{
-    uint8_t out[512];
-    memset(out, 0xEE, sizeof out);
-    plain_written w = write_fields(kind, fields, out, sizeof out);
-    is_true(w.number == number && w.field == field, what, w.number, w.field);
-    int kept = 1;
-    for (size_t i = w.count; i < sizeof out; i++)
-        kept = kept && out[i] == 0xEE;
-    is_true(kept && (number == 0 || w.count == 0), "output kept", w.count, w.number);
-}
-
 static void test_writer_refusals(void)
 {
     for (unsigned kind = 0; kind < 100; kind++)
         if (!plain_is_base(edition, kind))
             expect_written("22", kind, "", 22, 0);
     expect_written("22", UINT32_MAX, "Dirf|", 22, 0);
-    expect_written("22 before 11", 20, "INFPC|", 22, 0);
+    expect_written("22 before 11", named("VPEIM"), "VPEIM|", 22, 0);
     expect_written("11", 5, "IDREC|", 11, 0);
     expect_written("11", 5, "IDREC|0561||", 11, 0);
     expect_written("11 none", 5, "", 11, 0);
@@ -1462,9 +1041,6 @@ static void test_writer(void)
 }
 
 /* ---- check digits ---- */
-
-#define BAD_CPF "11144477753"           /* A1's own, with its last two digits swapped */
-#define BAD_CNPJ "11222333000118"
 
 /* One CPF or CNPJ as a beneficiary's and as a lawyer's, by the writer and in a file: 0 or 26. */
 static void expect_id(const char *id, uint32_t number)
@@ -1628,7 +1204,7 @@ static void test_other_field(unsigned kind, unsigned f, plain_row r)
         test_field_value(kind, f, many('1', r.size), 0);
 }
 
-/* Every field of the edition: 9 hold a CPF, 7 a CNPJ, 2 either, and no other can be 26. */
+/* Every field of the edition: 12 hold a CPF, 9 a CNPJ, 4 either, and no other can be 26. */
 static void test_id_fields(void)
 {
     unsigned cpfs = 0, cnpjs = 0, either = 0;
@@ -1647,7 +1223,7 @@ static void test_id_fields(void)
             if (!r.cpf)
                 test_id_field(kind, f, 14);
         }
-    is_true(cpfs == 9 && cnpjs == 7 && either == 2, "18 fields", cpfs * 100 + cnpjs, either);
+    is_true(cpfs == 12 && cnpjs == 9 && either == 4, "25 fields", cpfs * 100 + cnpjs, either);
 }
 
 /* A line with a fault in its fields, in a file and by the writer, also where that has no room. */
@@ -1719,7 +1295,7 @@ static void test_26_in_file(void)
 {
     expect_after("8", DECPF, "SCP|" BAD_CNPJ "|A", 8, 4, 0);
     expect_after("9", DECPF, "SCPX|" BAD_CNPJ "|A|", 9, 4, 1);
-    expect_after("10, whose CNPJ nobody asks", DECPJ, "INFPC|" BAD_CNPJ "|A|", 10, 4, 1);
+    expect_after("10, whose CNPJ nobody asks", DECPJ, "VPEIM|" BAD_CNPJ "|A|", 10, 4, 1);
     expect_after("12 before 26", DECPF, "BPFDEC|" BAD_CPF "|A||N|N|", 12, 4, 1);
     expect_after("12 before 26", DECPF, "FCI|" BAD_CNPJ "|A|", 12, 4, 1);
     expect_after("12 before 26 by order", DECPF, "IDREC|0561|~BPJDEC|{cnpj 1}|A|~BPFDEC|" BAD_CPF "|A||N|N|", 12, 6, 1);
@@ -1774,7 +1350,7 @@ static void test_26_written(void)
     static const uint8_t contents[] = "SCP" BAD_CNPJ "A";
     size_t lengths[] = {3, 14, 1};
     uint8_t out[64];
-    is_true(plain_write_line(edition, 20, contents, 18, lengths, 3, out, 64).number == 22, "22 before 26", 0, 0);
+    is_true(plain_write_line(edition, named("VPEIM"), contents, 18, lengths, 3, out, 64).number == 22, "22 before 26", 0, 0);
     is_true(plain_write_line(edition, 59, contents, 18, lengths, 2, out, 64).number == 11, "11 before 26", 0, 0);
     is_true(plain_write_line(edition, 59, contents, 17, lengths, 3, out, 64).number == 23, "23 before 26", 0, 0);
     is_true(plain_write_line(edition, 59, contents, 18, lengths, 3, out, 64).number == 26, "26 written", 0, 0);
@@ -2020,7 +1596,7 @@ static void test_lawyer_written(void)
     size_t lengths[] = {3, 1, 0, 1, 14, 0, 0};
     uint8_t out[64];
     unsigned proc = named("PROC"), rra = named("RRA");
-    is_true(plain_write_line(edition, 20, contents, 19, lengths, 7, out, 64).number == 22, "22 before 19", 0, 0);
+    is_true(plain_write_line(edition, named("VPEIM"), contents, 19, lengths, 7, out, 64).number == 22, "22 before 19", 0, 0);
     is_true(plain_write_line(edition, rra, contents, 19, lengths, 6, out, 64).number == 11, "11 before 19", 0, 0);
     is_true(plain_write_line(edition, rra, contents, 18, lengths, 7, out, 64).number == 23, "23 before 19", 0, 0);
     plain_written w = plain_write_line(edition, rra, contents, 19, lengths, 7, out, 64);
@@ -2367,10 +1943,10 @@ static void test_left_for_later(void)
         sprintf(l, DIRF_LINE "\r\n" RESPO_LINE "\r\n%s|\r\n", name);
         expect_bytes("left, line 3", l, 10, 3, 1);
     }
-    is_true(left == 17, "17 left for later", left, 0);
+    is_true(left == 7, "7 left for later", left, 0);
 }
 
-/* A record, and below a beneficiary every value record that 000's list has there; 2025 has its two beside RTDP and ESDP. */
+/* A record, and below a beneficiary, INFPC or INFPA every value record that 000's list has there; 2025 has its two beside RTDP and ESDP. */
 static void add_whole(text *t, unsigned d, const char *name, char *seen)
 {
     char line[512];
@@ -2380,7 +1956,9 @@ static void add_whole(text *t, unsigned d, const char *name, char *seen)
     for (unsigned kind = 1; kind <= plain_kinds(); kind++) {
         int newer = edition == PLAIN_2025 && source_holds("RTDS ESDS", plain_name(kind));
         const char *like = !newer ? plain_name(kind) : kind == named("RTDS") ? "RTDP" : "ESDP";
-        if (name[0] == 'B' && source_below(plain_name(d), name, like)) {
+        if (name[0] != 'I' && source_holds("INFPC INFPA", plain_name(kind)))
+            continue;
+        if ((name[0] == 'B' || strncmp(name, "INF", 3) == 0) && source_below(plain_name(d), name, like)) {
             good_line(kind, 1, line);
             add_line(t, line);
             seen[kind] = 1;
@@ -2391,12 +1969,14 @@ static void add_whole(text *t, unsigned d, const char *name, char *seen)
 /* One file with every record of the edition that the declarant may have. */
 static void test_whole(unsigned d)
 {
-    static const char *const paths[] = {"IDREC BPFDEC BPJDEC RRA IDREC BPFRRA SCP BPFSCP BPJSCP FIMDirf",
-        "IDREC BPFDEC BPJDEC FCI IDREC BPFFCI BPJFCI PROC IDREC BPFPROC BPJPROC RRA IDREC BPFRRA SCP BPFSCP BPJSCP FIMDirf"};
+    static const char *const paths[] = {"IDREC BPFDEC INFPC INFPA BPJDEC RRA IDREC BPFRRA SCP BPFSCP BPJSCP PSE OPSE TPSE RTPSE "
+        "DTPSE RDTPSE FIMDirf",
+        "IDREC BPFDEC INFPC INFPA BPJDEC FCI IDREC BPFFCI BPJFCI PROC IDREC BPFPROC BPJPROC RRA IDREC BPFRRA SCP BPFSCP BPJSCP "
+        "PSE OPSE TPSE RTPSE DTPSE RDTPSE FIMDirf"};
     char name[16], seen[100] = {0};
     int used;
-    unsigned kinds = 3, want = (d == DECPF ? 34 : 55) - (edition == PLAIN_2022 ? 2 : 0);
-    text t = head(d, 1);
+    unsigned kinds = 3, want = (d == DECPF ? 48 : 65) - (edition == PLAIN_2022 ? 2 : 0);
+    text t = head(d, PEOPLE_SCP | PEOPLE_PSE);
     for (const char *s = paths[d - DECPF]; sscanf(s, "%15s%n", name, &used) == 1; s += used)
         add_whole(&t, d, name, seen);
     for (unsigned kind = 1; kind <= plain_kinds(); kind++) {
@@ -2465,14 +2045,16 @@ static void test_rows_printed(void)
             rows += p.format != 0;
             is_true(r.format == p.format && r.size == p.size && r.fixed == p.fixed && r.obligatory == p.obligatory, name, kind, f);
             is_true(strcmp(r.values ? r.values : "", values) == 0, "values printed", kind, f);
-            is_true(r.amount == (p.format == 'N' && !p.fixed && p.size == 13), "amount", kind, f);
+            int amount = p.format == 'N' && !p.fixed && (p.size == 13 || (p.size == 9 && kind != 2));
+            is_true(r.amount == amount, "amount", kind, f);
             is_true(r.months == (strcmp(name, "QTMESES") == 0 && f > 1 && f < 14), "months", kind, f);
             is_true(r.ddd == (kind == 2 && f == 4) && r.telephone == (kind == 2 && (f == 5 || f == 7)), "DDD", kind, f);
-            is_true(r.cpf_or_cnpj == (source_holds("PROC RRA", name) && f == 5), "CPF or CNPJ", kind, f);
+            int either = (source_holds("PROC RRA", name) && f == 5) || (source_holds("RTPSE RDTPSE", name) && f == 2);
+            is_true(r.cpf_or_cnpj == either, "CPF or CNPJ", kind, f);
             int sized = people_is_id(name, f) && p.fixed;
             is_true(r.cpf == (sized && p.size == 11) && r.cnpj == (sized && p.size == 14), "CPF, CNPJ", kind, f);
         }
-    is_true(rows == (edition == PLAIN_2025 ? 561 : 533), "rows printed", rows, 0);
+    is_true(rows == (edition == PLAIN_2025 ? 622 : 594), "rows printed", rows, 0);
 }
 
 /* Every pair under each declarant as 000's lists print it; 2025 has two records more, below BPFDEC and BPFPROC. */
@@ -2489,7 +2071,7 @@ static void test_pairs_printed(void)
                 pairs += (unsigned)want;
                 is_true(plain_below(edition, d, parent, child) == want, "pair printed", d * 100 + parent, child);
             }
-    is_true(pairs == (edition == PLAIN_2025 ? 132 : 126), "pairs printed", pairs, 0);
+    is_true(pairs == (edition == PLAIN_2025 ? 166 : 160), "pairs printed", pairs, 0);
 }
 
 /* Whether two rows have the same values; every other entry has to be the same. */
@@ -2535,9 +2117,9 @@ static void test_helpers(void)
 {
     is_true(plain_name(0) == NULL && plain_name(74) == NULL, "no name", 0, 0);
     is_true(!plain_is_base(edition, 0) && !plain_is_base(edition, 74) && !plain_is_base(edition, ~0u), "no base", 0, 0);
-    is_true(plain_fields(edition, 0) == 0 && plain_fields(edition, 20) == 0 && plain_fields(edition, 99) == 0, "none", 0, 0);
+    is_true(plain_fields(edition, 0) == 0 && plain_fields(edition, 45) == 0 && plain_fields(edition, 99) == 0, "none", 0, 0);
     is_true(plain_field_row(edition, 1, 0).size == 0 && plain_field_row(edition, 1, 7).size == 0, "no row", 0, 0);
-    is_true(plain_field_row(edition, 20, 1).size == 0 && plain_field_row(edition, ~0u, ~0u).size == 0, "none", 0, 0);
+    is_true(plain_field_row(edition, 45, 1).size == 0 && plain_field_row(edition, ~0u, ~0u).size == 0, "none", 0, 0);
     is_true(!plain_below(edition, 3, ~0u, 5) && !plain_below(edition, 3, 3, ~0u) && !plain_below(edition, ~0u, 3, 5),
             "below nothing", 0, 0);
     is_true(strcmp(plain_name(1), "Dirf") == 0 && strcmp(plain_name(73), "FIMDirf") == 0
@@ -2558,7 +2140,9 @@ static void test_helpers(void)
 /* ---- random files, good ones and changed ones ---- */
 
 static unsigned serial;
-static int scp_to_come;                 /* the declarant's line is made before its blocks */
+static unsigned blocks_to_come;         /* the declarant's line is made before its blocks */
+static char key_fields[2][PEOPLE_ID];   /* fields 2 and 3 of the next line, where its kind's order asks for certain ones */
+static int key_is_set;
 
 /* One digit changed or two neighbours exchanged; by chance the number may stay right. */
 static void spoil(char *id, size_t len)
@@ -2591,23 +2175,25 @@ static void random_line(text *t, unsigned kind, int changed)
     static const char *const odd[] = {"", "0", "00", "1", "2", "9", "S", "N", "X", "01", "2025", "2022", "2024", "2021",
         "R6GP3ZA", "XJFSFHB",
         "20240229", "20230229", "11144477735", BAD_CPF, "11222333000181", "99999999999999", "A|", "A", "000", "123456789",
-        "12345678", "1234567", "\xC3\x87", "2,3", ",", "S,N"};
+        "12345678", "1234567", "\xC3\x87", "2,3", ",", "S,N", "03", "10", "05", "1234567890"};
     unsigned lawyer = below_n(3);
     for (unsigned f = 1; f <= plain_fields(edition, kind); f++) {
         char field[160];
         plain_row r = plain_field_row(edition, kind, f);
         good_field(kind, f, serial, field);
-        if (people_flag(kind, f, scp_to_come) != NULL)
-            strcpy(field, people_flag(kind, f, scp_to_come));
+        if (people_flag(kind, f, blocks_to_come) != NULL)
+            strcpy(field, people_flag(kind, f, blocks_to_come));
         int key = kind == named("RRA") && f == 3;
-        if (people_is_lawyer(plain_name(kind), f))
+        if (key_is_set && (f == 2 || (f == 3 && r.format == 'D')))
+            strcpy(field, key_fields[f - 2]);
+        else if (people_is_lawyer(plain_name(kind), f))
             random_lawyer(changed && below_n(12) == 0 ? below_n(3) : lawyer, f, field);
         else if (f > 1 && !r.obligatory && !key && below_n(2))
             field[0] = 0;
         else if (f > 2 && r.values == NULL && r.format == 'C' && r.size > 20 && below_n(3) == 0)
             strcpy(field, many("AZ \x80\xFF"[below_n(5)], 1 + below_n(r.size)));
         else if (r.amount || r.months)
-            sprintf(field, "%u", 1 + below_n(r.months ? 9999 : 2000000000));
+            sprintf(field, "%u", 1 + below_n(r.months ? 9999 : r.size == 9 ? 999999999 : 2000000000));
         if (changed && people_is_id(plain_name(kind), f) && field[0] && below_n(30) == 0)
             spoil(field, strlen(field));
         if (changed && below_n(60) == 0)
@@ -2617,16 +2203,87 @@ static void random_line(text *t, unsigned kind, int changed)
     }
     add(t, "\r\n");
     serial++;
+    key_is_set = 0;
+}
+
+/* Where the order of dependants is: none of the two fields, then dates alone, then CPFs, now and then one again with a later date. */
+typedef struct { unsigned stage, days; char cpf[PEOPLE_ID]; } dependants;
+
+static void random_dependant(text *t, unsigned kind, dependants *p, int changed)
+{
+    unsigned stage = p->stage + below_n(3 - p->stage);
+    int again = stage == 2 && p->cpf[0] && below_n(3) == 0;
+    if (stage == 2 && !again)
+        people_cpf(serial, p->cpf);
+    strcpy(key_fields[0], stage == 2 ? p->cpf : "");
+    sprintf(key_fields[1], "20%02u0%u%02u", p->days / 280, 1 + p->days / 28 % 9, 1 + p->days % 28);
+    p->days += 1 + below_n(30);
+    if (stage == 0 || (stage == 2 && !again && below_n(2)))
+        key_fields[1][0] = 0;
+    p->stage = stage == 0 ? 1 : stage;
+    key_is_set = 1;
+    random_line(t, kind, changed);
+}
+
+/* CPFs, then CNPJs, which by their bytes alone would often stand before them. */
+static void random_refunds(text *t, unsigned kind, int changed)
+{
+    unsigned n = below_n(4), persons = below_n(n + 1), far = below_n(2) * 900000000;
+    for (unsigned i = 0; i < n; i++) {
+        if (i < persons)
+            people_cpf(far + serial, key_fields[0]);
+        else
+            people_cnpj(serial, key_fields[0]);
+        key_is_set = 1;
+        random_line(t, kind, changed);
+    }
+}
+
+/* An INFPC or INFPA with values, where the beneficiary may have one. */
+static void random_group(text *t, unsigned d, unsigned beneficiary, dependants *p, int changed)
+{
+    unsigned group = named(below_n(2) ? "INFPC" : "INFPA"), from = below_n(73);
+    if (!plain_below(edition, d, beneficiary, group))
+        return;
+    if (group == named("INFPA"))
+        random_dependant(t, group, p, changed);
+    else
+        random_line(t, group, changed);
+    for (unsigned i = 0; i < 73; i++) {
+        unsigned kind = 1 + (from + i * 5) % 73;
+        int lacking_there = kind == named("ESPA") && beneficiary == named("BPFRRA");
+        if (plain_below(edition, d, group, kind) && below_n(2) && (!lacking_there || (changed && below_n(9) == 0)))
+            random_line(t, kind, changed);
+    }
 }
 
 static void random_values(text *t, unsigned d, unsigned beneficiary, int changed)
 {
     unsigned from = below_n(73), n = below_n(4) ? below_n(8) : 73;
+    dependants p = {below_n(3), 0, ""};
     for (unsigned i = 0; i < 73 && n > 0; i++) {
         unsigned kind = 1 + (from + i * 5) % 73;
-        if (plain_below(edition, d, beneficiary, kind) && below_n(3)) {
-            random_line(t, kind, changed);
-            n--;
+        if (strncmp(plain_name(kind), "INF", 3) == 0 || !plain_below(edition, d, beneficiary, kind) || !below_n(3))
+            continue;
+        random_line(t, kind, changed);
+        n--;
+        while (below_n(4) == 0)
+            random_group(t, d, beneficiary, &p, changed);
+    }
+    while (below_n(3) == 0)
+        random_group(t, d, beneficiary, &p, changed);
+}
+
+/* The operator's holders, each with refunds and dependants. */
+static void random_holders(text *t, int changed)
+{
+    for (unsigned n = below_n(4); n > 0; n--) {
+        dependants p = {below_n(3), 0, ""};
+        random_line(t, named("TPSE"), changed);
+        random_refunds(t, named("RTPSE"), changed);
+        for (unsigned m = below_n(4); m > 0; m--) {
+            random_dependant(t, named("DTPSE"), &p, changed);
+            random_refunds(t, named("RDTPSE"), changed);
         }
     }
 }
@@ -2655,10 +2312,10 @@ static text random_file(int changed)
 {
     static const char *const blocks[][3] = {
         {"FCI", "BPFFCI", "BPJFCI"}, {"PROC", "BPFPROC", "BPJPROC"}, {"RRA", "BPFRRA", NULL}};
-    unsigned d = DECPF + below_n(2), scps = below_n(3);
+    unsigned d = DECPF + below_n(2), scps = below_n(3), pses = below_n(2);
     text t = {0};
     serial = 100;
-    scp_to_come = scps > 0;
+    blocks_to_come = (scps > 0 ? PEOPLE_SCP : 0) | (pses ? PEOPLE_PSE : 0);
     random_line(&t, 1, changed);
     random_line(&t, 2, changed);
     random_line(&t, d, changed);
@@ -2671,6 +2328,12 @@ static text random_file(int changed)
     for (; scps > 0; scps--) {
         random_line(&t, named("SCP"), changed);
         random_beneficiaries(&t, d, "BPFSCP", "BPJSCP", changed);
+    }
+    if (pses)
+        random_line(&t, named("PSE"), changed);
+    for (unsigned n = pses ? below_n(4) : 0; n > 0; n--) {
+        random_line(&t, named("OPSE"), changed);
+        random_holders(&t, changed);
     }
     random_line(&t, 73, changed);
     return t;
@@ -2713,11 +2376,35 @@ static void change(text *t)
     free(line);
 }
 
+/* Marks each pair of parent and child kind that a file has, by its declarant. */
+static void mark_pairs(const text *t, char seen[2][74][74])
+{
+    size_t lines = count_lf(t->bytes, t->len);
+    uint32_t *table = calloc(lines + 1, 16);
+    plain_answer a = run_plain(t->bytes, t->len, lines, table);
+    for (size_t n = 3; n < a.entries; n++)
+        if (table[4 * n + 3] != 0)
+            seen[table[8] - DECPF][table[4 * (table[4 * n + 3] - 1)]][table[4 * n]] = 1;
+    free(table);
+}
+
+/* In many files every pair that may be comes up, or the random files would leave something out. */
+static void test_pairs_seen(char seen[2][74][74])
+{
+    for (unsigned d = 0; d < 2; d++)
+        for (unsigned parent = 1; parent <= plain_kinds(); parent++)
+            for (unsigned child = 1; child <= plain_kinds(); child++)
+                is_true(seen[d][parent][child] == plain_below(edition, DECPF + d, parent, child), "pair in random files", parent, child);
+}
+
 static void test_random_files(unsigned rounds)
 {
+    static char seen[2][74][74];
     unsigned long lawyers = 0;
+    memset(seen, 0, sizeof seen);
     for (unsigned i = 0; i < rounds; i++) {
         text t = random_file(0);
+        mark_pairs(&t, seen);
         plain_answer a = run(t.bytes, t.len, 10000);
         is_true(a.number == 0 && a.entries == count_lf(t.bytes, t.len), "good file",
                 a.number * 1000 + a.field, a.line);
@@ -2735,6 +2422,8 @@ static void test_random_files(unsigned rounds)
         drop(&t);
     }
     is_true(lawyers > rounds / 100, "now and then a lawyer's 19", lawyers, rounds);
+    if (rounds >= 1000)
+        test_pairs_seen(seen);
 }
 
 /* Where a CPF or CNPJ of a file stands. */
@@ -2902,6 +2591,28 @@ static void test_cuts(unsigned rounds)
     }
 }
 
+/* A right file cut after any line past the third is closed by FIMDirf; a changed one too, or it is refused for good. */
+static void test_closed(unsigned rounds)
+{
+    for (unsigned i = 0; i < rounds; i++) {
+        text t = random_file((int)(i % 2)), cut = {0};
+        plain_answer whole = run_plain(t.bytes, t.len, 4000, NULL);
+        uint32_t line = 0;
+        for (size_t len = 1; len <= t.len; len++) {
+            if (t.bytes[len - 1] != '\n' || ++line < 3 || line == count_lf(t.bytes, t.len))
+                continue;
+            cut.len = 0;
+            add_bytes(&cut, t.bytes, len);
+            add_line(&cut, "FIMDirf|");
+            plain_answer a = run_plain(cut.bytes, cut.len, 4000, NULL);
+            int good = whole.number == 0 || line < whole.line;
+            is_true(equal(a, good ? (plain_answer){0, line + 1, 0, line + 1} : whole), "closed or refused for good", a.number, line);
+        }
+        drop(&t);
+        drop(&cut);
+    }
+}
+
 static void test_random_bytes(unsigned rounds)
 {
     static const char some[] = "|\r\n012SNDirfRESPOIDREC";
@@ -2984,6 +2695,7 @@ static void test_one_edition(unsigned rounds)
     test_check_digits();
     test_lawyers();
     test_editions();
+    test_groups();
     test_helpers();
     test_random_files(rounds);
     test_one_spoiled(rounds / 3 + 10);
@@ -2991,6 +2703,7 @@ static void test_one_edition(unsigned rounds)
     test_random_ids(rounds);
     test_exchanged(rounds / 10 + 10);
     test_cuts(rounds / 1000 + 2);
+    test_closed(rounds / 60 + 10);
     test_random_bytes(rounds);
     test_random_writes(rounds * 5);
 }

@@ -27,34 +27,50 @@ static const struct { const char *names, *rows; } tables[] = {
     /* 3.14 */ {"BPJPROC", "CF7s NF14s CV150s"},
     /* 3.15 */ {"RRA", "CF3s NF1s=1,2 CV20n NF1n=1,2 NV14n CV150n NV13n"},
     /* 3.16 */ {"BPFRRA", "CF6s NF11s CV60s CV50n DF8n CF1s=S,N"},
-    /* 3.19 */ {"RTRT RTPO RTPP RTFA RTSP RTDP RTPA RTIRF CJAC CJAA ESRT ESPO ESPP ESFA ESSP ESDP ESPA ESIR ESDJ RIP65 RIDAC "
-                "RIIRP RIAP RIMOG RIRPC RIBMR RICAP RISCP DAJUD", "CV5s" THIRTEEN(" NV13n")},
+    /* 3.17 */ {"INFPC", "CF5s NF14s CV150s"},
+    /* 3.18 */ {"INFPA", "CF5s NF11n DF8n CV60s NF2n=03,04,06,08,10"},
+    /* 3.19 */ {"RTRT RTPO RTPP RTFA RTSP RTEP RTDP RTPA RTIRF CJAC CJAA ESRT ESPO ESPP ESFA ESSP ESEP ESDP ESPA ESIR ESDJ RIP65 "
+                "RIDAC RIIRP RIAP RIMOG RIRPC RIBMR RICAP RISCP DAJUD", "CV5s" THIRTEEN(" NV13n")},
     /* 3.20 */ {"RIL96 RIPTS RIJMRE RIRSR", "CV6s NV13s"},
     /* 3.21 */ {"RIO", "CF3s NV13s CV60s"},
     /* 3.22 */ {"QTMESES", "CF7s" TWELVE(" NV4n")},
     /* 3.23 */ {"SCP", "CF3s NF14s CV150s"},
     /* 3.24 */ {"BPFSCP", "CF6s NF11s CV60s NV4n"},
     /* 3.25 */ {"BPJSCP", "CF6s NF14s CV150s CV4n"},
+    /* 3.26 */ {"PSE", "CF3s"},
+    /* 3.27 */ {"OPSE", "CF4s NF14s CV150s NF6n"},
+    /* 3.28 */ {"TPSE", "CF4s NF11s CV60s NV9s"},
+    /* 3.29 */ {"RTPSE", "CF5s NV14s CV150s NV9n NV9n"},
+    /* 3.30 */ {"DTPSE", "CF5s NF11n DF8n CV60s NF2n=03,04,06,08,10 NV9s"},
+    /* 3.31 */ {"RDTPSE", "CF6s NV14s CV150s NV9n NV9n"},
     /* 3.36 */ {"FIMDirf", "CF7s"},
 };
 
-/* Records below INFPC, INFPA, VPEIM, PSE, RPDE and INF are left out with these. */
+/* Records below VPEIM, RPDE and INF are left out with these. */
 static const struct { const char *declarant, *parent, *children; } lists[] = {
     /* 2.1 */
-    {"DECPF", "DECPF", "IDREC RRA SCP"},
+    {"DECPF", "DECPF", "IDREC RRA SCP PSE"},
     {"DECPF", "IDREC", "BPFDEC BPJDEC BPFRRA"},
-    {"DECPF", "BPFDEC", "RTRT RTPO RTDP RTIRF CJAC CJAA ESRT ESPO ESDP ESIR ESDJ RIDAC RIIRP RIAP RIP65 RIJMRE RIO"},
+    {"DECPF", "BPFDEC", "RTRT RTPO RTDP RTIRF CJAC CJAA ESRT ESPO ESDP ESIR ESDJ INFPC INFPA RIDAC RIIRP RIAP RIP65 RIJMRE RIO"},
+    {"DECPF", "INFPC", "RTPP RTFA ESPP ESFA"},
+    {"DECPF", "INFPA", "RTPA ESPA"},
     {"DECPF", "BPJDEC", "RTRT RTIRF"},
     {"DECPF", "RRA", "IDREC"},
-    {"DECPF", "BPFRRA", "RTRT RTPO RTIRF DAJUD QTMESES RIJMRE"},
+    {"DECPF", "BPFRRA", "RTRT RTPO RTIRF DAJUD QTMESES RIJMRE INFPA"},
     {"DECPF", "SCP", "BPFSCP BPJSCP"},
     {"DECPF", "BPFSCP", "RISCP"},
     {"DECPF", "BPJSCP", "RISCP"},
+    {"DECPF", "PSE", "OPSE"},
+    {"DECPF", "OPSE", "TPSE"},
+    {"DECPF", "TPSE", "RTPSE DTPSE"},
+    {"DECPF", "DTPSE", "RDTPSE"},
     /* 2.2 */
-    {"DECPJ", "DECPJ", "IDREC FCI PROC RRA SCP"},
+    {"DECPJ", "DECPJ", "IDREC FCI PROC RRA SCP PSE"},
     {"DECPJ", "IDREC", "BPFDEC BPJDEC BPFFCI BPJFCI BPFPROC BPJPROC BPFRRA"},
-    {"DECPJ", "BPFDEC", "RTRT RTPO RTDP RTIRF CJAC CJAA ESRT ESPO ESDP ESIR ESDJ RIDAC RIIRP RIAP RIMOG RIP65 RIBMR RICAP "
-     "RIRPC RIL96 RIPTS RIJMRE RIO"},
+    {"DECPJ", "BPFDEC", "RTRT RTPO RTDP RTIRF CJAC CJAA ESRT ESPO ESDP ESIR ESDJ INFPC INFPA RIDAC RIIRP RIAP RIMOG RIP65 RIBMR "
+     "RICAP RIRPC RIL96 RIPTS RIJMRE RIO"},
+    {"DECPJ", "INFPC", "RTPP RTFA RTSP RTEP ESPP ESFA ESSP ESEP"},
+    {"DECPJ", "INFPA", "RTPA ESPA"},
     {"DECPJ", "BPJDEC", "RTRT RTIRF"},
     {"DECPJ", "FCI", "IDREC"},
     {"DECPJ", "BPFFCI", "RTRT RTIRF CJAC CJAA ESRT ESIR ESDJ RIP65 RIMOG RICAP RIO"},
@@ -64,18 +80,21 @@ static const struct { const char *declarant, *parent, *children; } lists[] = {
      "RIMOG RIJMRE RIRSR"},
     {"DECPJ", "BPJPROC", "RTRT RTIRF RIRSR"},
     {"DECPJ", "RRA", "IDREC"},
-    {"DECPJ", "BPFRRA", "RTRT RTPO RTIRF RIMOG RIP65 RIJMRE DAJUD QTMESES"},
+    {"DECPJ", "BPFRRA", "RTRT RTPO INFPA RTIRF RIMOG RIP65 RIJMRE DAJUD QTMESES"},
     {"DECPJ", "SCP", "BPFSCP BPJSCP"},
     {"DECPJ", "BPFSCP", "RISCP"},
     {"DECPJ", "BPJSCP", "RISCP"},
+    {"DECPJ", "PSE", "OPSE"},
+    {"DECPJ", "OPSE", "TPSE"},
+    {"DECPJ", "TPSE", "RTPSE DTPSE"},
+    {"DECPJ", "DTPSE", "RDTPSE"},
 };
 
 int source_holds(const char *words, const char *word)
 {
-    char one[16];
-    int used;
-    for (const char *s = words; sscanf(s, "%15s%n", one, &used) == 1; s += used)
-        if (strcmp(one, word) == 0)
+    size_t len = strlen(word);
+    for (const char *s = words; len > 0 && (s = strstr(s, word)) != NULL; s++)
+        if ((s == words || s[-1] == ' ') && (s[len] == ' ' || s[len] == 0))
             return 1;
     return 0;
 }

@@ -6,7 +6,8 @@
 typedef struct { char format, values[32]; int fixed, obligatory; unsigned size; } source_line;
 source_line source_row(const char *name, unsigned f);
 
-/* Whether the list of the declarant, DECPF or DECPJ, puts the child directly below the parent; base records only. */
+/* Whether the list of the declarant, DECPF or DECPJ, puts the child directly below the parent, in one place of
+   the list at least; base records only. */
 int source_below(const char *declarant, const char *parent, const char *child);
 
 /* Whether the word stands in a list of words with one blank between. */
