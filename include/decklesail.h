@@ -43,7 +43,7 @@ uint32_t decklesail_edition(const uint8_t *file, size_t file_len);
  *    6  a CR or LF that is not CR LF                        field 0
  *    8  the line is empty or its last byte is no bar        field 0
  *    9  identifier unknown                                  field 1
- *   10  identifier known, left for later                    field 1
+ *   10  identifier known, left for later: VPEIM, RIMUN, RISEN, RPDE, BRPDE, VRPDE, INF   field 1
  *   12  the record may not stand here                       field 1
  *   11  wrong number of fields                              field 0
  *   13  obligatory field empty                              its own field
@@ -54,7 +54,7 @@ uint32_t decklesail_edition(const uint8_t *file, size_t file_len);
  *   18  not one of the valid values                         its own field
  *   26  a check digit of a CPF or CNPJ is wrong             its own field
  *   19  a condition is broken (below)                       field 5, 6, 9, 10, 11 or 13, the lowest
- *   21  a value record repeated under one beneficiary       field 1
+ *   21  a value record repeated under its own parent: a beneficiary, INFPC or INFPA   field 1
  *   20  key not greater                                     field 2
  *    7  the table holds fewer entries than the line's number  field 0
  *

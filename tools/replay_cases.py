@@ -331,7 +331,7 @@ def values(held, outer, holder, names, depth):
 
 
 def full(declarant, turned, below=BELOW):
-    """Every record that the declarant's list has, each value record once; turned round, those below a beneficiary come in the other order."""
+    """Every record that the declarant's list has, each value record once; turned round, below a beneficiary in the other order."""
     has = {who: names[::-1] if turned else names for who, names in below[declarant].items()}
     held, tree = LAYOUT.below[declarant], pj if declarant == "DECPJ" else pf
     order = [("BPFDEC", 6), ("BPJDEC", 6), ("BPFFCI", 8), ("BPJFCI", 8), ("BPFPROC", 8), ("BPJPROC", 8), ("BPFRRA", 8), ("BPFSCP", 6),
@@ -915,8 +915,9 @@ def parent_among(opened, name):
 
 
 # for each record that can be open in that file one that stands below it, with a key that no other passes
-PROBES = [LINE["RTIRF"], LINE["RISCP"], "IDREC|9999|", "PROC|3|9|||||"]
-PROBES += [with_field(name, 2, makers.cnpj(999999999999)) for name in ("BPJDEC", "BPJPROC", "BPJSCP", "SCP")]
+PROBES = [LINE["RTIRF"], LINE["RISCP"], LINE["ESPP"], "IDREC|9999|", "PROC|3|9|||||"]
+PROBES += [with_field(name, 2, makers.cnpj(999999999999)) for name in ("BPJDEC", "BPJPROC", "BPJSCP", "SCP", "OPSE")]
+PROBES += [with_field(name, 2, makers.cpf(999999999)) for name in ("TPSE", "DTPSE")]
 
 
 def tour_open(before, opened):
@@ -933,7 +934,9 @@ def tour_open(before, opened):
             check_lines(lines, 21, line, 1)
         else:
             check_lines(lines, 1, line + 1)
-    if not held >= {number for number, _ in opened}:
+    # behind a PSE nothing more stands below the declarant
+    shut = ["DECPJ"] if "PSE" in dict(opened).values() else []
+    if not held >= {number for number, name in opened if name not in shut}:
         tour_page.stop(f"line {line}: no record would go below each of {opened}")
 
 
@@ -1246,7 +1249,8 @@ DATED = [
     ((LOW, ""), ("", ""), 20), (("", "20200101"), ("", "20200102"), 0), (("", "20200102"), ("", "20200101"), 20),
     (("", "20200101"), ("", "20200101"), 20), (("", ""), ("", "19990101"), 0), (("", "19990101"), ("", ""), 20),
     ((LOW, "20200101"), (LOW, "20200102"), 0), ((LOW, "20200102"), (LOW, "20200101"), 20), ((LOW, "20200102"), (HIGH, "20200101"), 0),
-    ((LOW, ""), (LOW, "19990101"), 0), ((LOW, "19990101"), (LOW, ""), 20), (("", "20991231"), (LOW, ""), 0), ((LOW, ""), ("", "20991231"), 20),
+    ((LOW, ""), (LOW, "19990101"), 0), ((LOW, "19990101"), (LOW, ""), 20), (("", "20991231"), (LOW, ""), 0),
+    ((LOW, ""), ("", "20991231"), 20),
 ]
 
 
@@ -1265,7 +1269,7 @@ def pension_keys():
         for first, second, breach in DATED:
             rows = [dated("INFPA", *first), *between, dated("INFPA", *second)]
             check(person(*rows, after="\nFIMDirf"), breach, 5 + len(rows) + (breach == 0), 2 if breach else 0)
-            check(pj(LEAD["BPFRRA"] + "BPFRRA\n        " + rows[0] + "\n        " + rows[-1]), breach or 1, 8 + (breach == 0), 2 if breach else 0)
+            check(pj(f"{LEAD['BPFRRA']}BPFRRA\n        {rows[0]}\n        {rows[-1]}"), breach or 1, 8 + (breach == 0), 2 if breach else 0)
     # an INFPC is not compared with the INFPA between, whatever stands in their fields, and the order starts afresh with the next person
     check(person(low, with_field("INFPA", 2, makers.cpf(999999999)), high, after="\nFIMDirf"), 0, 9)
     check(person(with_field("INFPA", 2, HIGH), with_field("INFPC", 2, makers.cnpj(1)), after="\nFIMDirf"), 0, 8)
@@ -1308,7 +1312,8 @@ def plan_places():
                 stands = name in PLAN and PLAN_ABOVE[name] in path and not (name == "RTPSE" and "DTPSE" in path)
                 size = len(cells_of(name)[1]) if stands else 0
                 text = with_field(name, 2, makers.key(size, int("9" * (size - makers.CHECK_SIZE)))) if stands else name
-                check(tree(lead + (plan_row(name, text) if stands else "  " + text)), 1 if stands else 12, line + stands, 0 if stands else 1)
+                row = plan_row(name, text) if stands else "  " + text
+                check(tree(lead + row), 1 if stands else 12, line + stands, 0 if stands else 1)
     # behind each block, and nothing behind it
     for name in ORDER[:-1]:
         check(pj(f"  {name}\n  PSE\n    OPSE\nFIMDirf"), 0, 7)
@@ -1352,9 +1357,10 @@ def plan_keys():
             check(plan(*rows, after="\nFIMDirf"), breach, 3 + len(rows) + (breach == 0), 2 if breach else 0)
     # afresh under the next holder, dependant and operator
     high = makers.cpf(999999999)
-    check(plan("PSE", "OPSE", "TPSE", ("RTPSE", with_field("RTPSE", 2, CNPJ)), ("TPSE", with_field("TPSE", 2, high)), "RTPSE", after="\nFIMDirf"), 0, 10)
+    next_one = ("TPSE", with_field("TPSE", 2, high))
+    check(plan("PSE", "OPSE", "TPSE", ("RTPSE", with_field("RTPSE", 2, CNPJ)), next_one, "RTPSE", after="\nFIMDirf"), 0, 10)
     check(plan("PSE", "OPSE", "TPSE", "DTPSE", "RDTPSE", ("DTPSE", dated("DTPSE", high, "")), "RDTPSE", after="\nFIMDirf"), 0, 11)
-    check(plan("PSE", "OPSE", ("TPSE", with_field("TPSE", 2, high)), ("OPSE", with_field("OPSE", 2, OTHER_CNPJ)), "TPSE", after="\nFIMDirf"), 0, 9)
+    check(plan("PSE", "OPSE", next_one, ("OPSE", with_field("OPSE", 2, OTHER_CNPJ)), "TPSE", after="\nFIMDirf"), 0, 9)
 
 
 def plan_fields():

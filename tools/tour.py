@@ -91,7 +91,7 @@ def spoiled_of(text):
         if entries != line - 1:
             stop("a refusal has one entry fewer than its line: " + answer)
         found.append((*numbered(changed), (number, line, field)))
-    return found if len(found) == 4 else stop("four lines are to be spoiled")
+    return found if len(found) == 5 else stop("five lines are to be spoiled")
 
 
 def read(path):
