@@ -4,8 +4,8 @@ mod state;
 mod turn;
 
 use editions::Edition;
+use layout::COLUMNS;
 use layout::HOLDERS;
-use layout::KINDS;
 use layout::ROW_BYTES;
 use state::Last;
 use turn::Entry;
@@ -75,7 +75,7 @@ fn third_kind(e: Edition, file: &[u8]) -> u32
 fn walk(
     e: Edition,
     rows: &[u8; ROW_BYTES],
-    below: &[[u8; KINDS]; HOLDERS],
+    below: &[[u8; COLUMNS]; HOLDERS],
     file: &[u8],
     room: usize,
     table: &mut [u32],

@@ -1,5 +1,6 @@
 // What the records so far come to, and the rules that look back at them: 12, 21 and 20. A record is given as its kind and its key's
 // fields; of an earlier one is known where its line stands in a text.
+use layout::COLUMNS;
 use layout::HOLDERS;
 use layout::KINDS;
 use rules::Finding;
@@ -87,7 +88,7 @@ pub(crate) fn above(opened: [u32; DEPTH], j: usize) -> u32
 }
 
 // How many open records stay open for a record of a kind: those down to the innermost that may hold it.
-fn held_in(below: &[[u8; KINDS]; HOLDERS], declarant: u32, path: Path, k: u32) -> usize
+fn held_in(below: &[[u8; COLUMNS]; HOLDERS], declarant: u32, path: Path, k: u32) -> usize
     requires { ⌜ path .depth ≤ deepest ⌝ }
     ensures { λ r. ⌜ (r ≡ heldIn (now (below .entry)) declarant (path .kinds) k (path .depth)) × (r ≤ deepest) ⌝ }
 {
@@ -105,7 +106,7 @@ fn held_in(below: &[[u8; KINDS]; HOLDERS], declarant: u32, path: Path, k: u32) -
 }
 
 // The same; the opening lines belong to nothing.
-pub(crate) fn held_at(below: &[[u8; KINDS]; HOLDERS], st: State, k: u32) -> usize
+pub(crate) fn held_at(below: &[[u8; COLUMNS]; HOLDERS], st: State, k: u32) -> usize
     requires { ⌜ st .path .depth ≤ deepest ⌝ }
     ensures { λ r. ⌜ (r ≡ heldAt (now (below .entry)) st k) × (r ≤ deepest) ⌝ }
 {

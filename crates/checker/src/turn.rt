@@ -6,8 +6,8 @@ use crate::state::Last;
 use crate::state::State;
 use editions::Edition;
 use fields::Places;
+use layout::COLUMNS;
 use layout::HOLDERS;
-use layout::KINDS;
 use layout::ROW_BYTES;
 use rules::Finding;
 ghost use mathlib.Core.Path.{_≡_};
@@ -153,7 +153,7 @@ fn filled_found(rows: &[u8; ROW_BYTES], line: &[u8], p: Places, k: u32) -> Findi
 // The line as a record: its kind by its identifier, and its place by its kind.
 fn record_of(
     e: Edition,
-    below: &[[u8; KINDS]; HOLDERS],
+    below: &[[u8; COLUMNS]; HOLDERS],
     line: &[u8],
     st: State,
     p: Places,
@@ -194,7 +194,7 @@ fn read(rows: &[u8; ROW_BYTES], line: &[u8], st: State, p: Places, r: Record) ->
 fn recorded(
     e: Edition,
     rows: &[u8; ROW_BYTES],
-    below: &[[u8; KINDS]; HOLDERS],
+    below: &[[u8; COLUMNS]; HOLDERS],
     line: &[u8],
     st: State,
     p: Places,
@@ -213,7 +213,7 @@ fn recorded(
 fn lined(
     e: Edition,
     rows: &[u8; ROW_BYTES],
-    below: &[[u8; KINDS]; HOLDERS],
+    below: &[[u8; COLUMNS]; HOLDERS],
     file: &[u8],
     st: State,
 ) -> Stepped
@@ -234,7 +234,7 @@ fn lined(
 pub(crate) fn turn(
     e: Edition,
     rows: &[u8; ROW_BYTES],
-    below: &[[u8; KINDS]; HOLDERS],
+    below: &[[u8; COLUMNS]; HOLDERS],
     file: &[u8],
     st: State,
 ) -> Stepped

@@ -17,7 +17,7 @@ use Rattle.layout.specs.Tables.{holders, belowTable, nameIn, baseIn, nam
 use Rattle.layout.specs.Tables.{tab, kinds, recordBytes, countIn, rowIn}
 use Rattle.layout.specs.Tables.{byteIn, rowOf, formatOf, fillOf, needOf, holdsOf, recordOf, rowBytesOf, formatByte, fillByte}
 use Rattle.layout.specs.Tables.{needByte, holdsByte, rowTable, yes}
-use Rattle.layout.specs.LaidOut.{LaidOut, isKind}
+use Rattle.layout.specs.LaidOut.{LaidOut, isKind, isColumn}
 
 -- a test of the lists below holds if it holds of each declarant's
 each : (pf pj : Children) (test : ℕ × List ℕ → Bool) → every test pf ≡ true → every test pj ≡ true → (d : ℕ)
@@ -35,8 +35,8 @@ found e pf pj = (
       ∷ every (λ g. every isKind (g .0)) (e .layout)
       ∷ every (λ r. ltb (r .0) holders) pf
       ∷ every (λ r. ltb (r .0) holders) pj
-      ∷ every (λ r. every isKind (r .1)) pf
-      ∷ every (λ r. every isKind (r .1)) pj
+      ∷ every (λ r. every isColumn (r .1)) pf
+      ∷ every (λ r. every isColumn (r .1)) pj
       ∷ [],
   tab (nameIn (nameTable e)) 0 kinds,
   tab (baseIn (nameTable e)) 0 kinds,
@@ -55,7 +55,7 @@ laid e pf pj lists f records =
       holds = rw lists
           (each pf pj (λ r. ltb (r .0) holders) (ap (λ (x : Facts). getD (x .0) 2 true) f) (ap (λ (x : Facts). getD (x .0) 3 true) f));
       held = rw lists
-          (each pf pj (λ r. every isKind (r .1)) (ap (λ (x : Facts). getD (x .0) 4 true) f) (ap (λ (x : Facts). getD (x .0) 5 true) f));
+          (each pf pj (λ r. every isColumn (r .1)) (ap (λ (x : Facts). getD (x .0) 4 true) f) (ap (λ (x : Facts). getD (x .0) 5 true) f));
       name = ap (λ (x : Facts). x .1) f;
       base = ap (λ (x : Facts). x .2) f;
       widths = ap (λ (x : Facts). x .3) f;

@@ -17,9 +17,9 @@ use Rattle.dirf.proofs.tests.Bools.{if-cases}
 use Rattle.dirf.proofs.tests.Says.{below-or}
 use Rattle.dirf.proofs.tables.Tables.{in-table, in-names}
 use Rattle.fields.specs.Places.{mostFields}
-use Rattle.layout.specs.Tables.{kinds, holders, nameIn, baseIn, nameTable, rowBytes, recordBytes, rowIn, rowsIn, countIn}
+use Rattle.layout.specs.Tables.{kinds, holders, columns, nameIn, baseIn, nameTable, rowBytes, recordBytes, rowIn, rowsIn, countIn}
 use Rattle.layout.specs.Tables.{byteIn, rowTable, recordOf, yes, yesIn, holdsIn, belowTable}
-use Rattle.layout.specs.LaidOut.{Say, SayRows, SayBelow, isKind, LaidOut}
+use Rattle.layout.specs.LaidOut.{Say, SayRows, SayBelow, isKind, isColumn, LaidOut}
 use Rattle.layout.specs.Codes.{rowCodes, rowSaid}
 use Rattle.layout.proofs.Past.{by-kind, some-past, isIn-past, lookup-past, rows-past}
 use Rattle.layout.proofs.Tab.{tab-at, tab-length, tab-same, tab-each, tab2-at, concat-drop}
@@ -119,10 +119,10 @@ module _ (e : Edition) (l : LaidOut e) where
       }
 
   module _ (d h k : ℕ) where
-    yes-there : h < holders → k < kinds → eqb (getD (getD (belowTable e d) h []) k 0) 89 ≡ isIn k (lookup [] (e .below d) h)
+    yes-there : h < holders → k < columns → eqb (getD (getD (belowTable e d) h []) k 0) 89 ≡ isIn k (lookup [] (e .below d) h)
     unfolding belowTable
     yes-there a b =
-        ap (λ x. eqb x 89) (tab2-at (λ h k. yes (isIn k (lookup [] (e .below d) h))) 0 holders kinds h k a b)
+        ap (λ x. eqb x 89) (tab2-at (λ h k. yes (isIn k (lookup [] (e .below d) h))) 0 holders columns h k a b)
         ∙ yes-says (isIn k (lookup [] (e .below d) h))
 
     yes-below : yesIn (belowTable e d) h k ≡ isIn k (lookup [] (e .below d) h)
@@ -130,11 +130,11 @@ module _ (e : Edition) (l : LaidOut e) where
     yes-below =
         below-or holders h
         (λ a.
-        by-kind k
-        (λ b. rw (lt-ltb h holders a, lt-ltb k kinds b) (yes-there a b))
+        below-or columns k
+        (λ b. rw (lt-ltb h holders a, lt-ltb k columns b) (yes-there a b))
         (λ b.
-        let all = in-table (λ h. every isKind) [] (λ h. refl) (e .below d) (l .held d) h in
-        simp (le-ltb k kinds b, and-false, isIn-past kinds k b (lookup [] (e .below d) h) all)))
+        let all = in-table (λ h. every isColumn) [] (λ h. refl) (e .below d) (l .held d) h in
+        simp (le-ltb k columns b, and-false, isIn-past columns k b (lookup [] (e .below d) h) all)))
         (λ a. rw (le-ltb h holders a, lookup-past holders h a [] (e .below d) (l .holds d)))
 
   pub says-below : (d : ℕ) → SayBelow e d (belowTable e d)

@@ -8,7 +8,7 @@ use lib.ListN.{length, replicate}
 use Rattle.dirf.specs.Bytes.{every}
 use Rattle.dirf.specs.Edition.{Edition, nameOf, rowsOf, isBase}
 use Rattle.dirf.specs.Tree.{mayHold}
-use Rattle.layout.specs.Tables.{tab, kinds, holders, nameIn, baseIn, nameTable, recordBytes, recordOf, rowsIn, holdsIn}
+use Rattle.layout.specs.Tables.{tab, kinds, holders, columns, nameIn, baseIn, nameTable, recordBytes, recordOf, rowsIn, holdsIn}
 
 -- a lent table says an edition: whoever reads it reads what the edition has
 pub record SayRows (e : Edition) (rows : List ℕ) : Type 0 where
@@ -27,13 +27,16 @@ SayBelow e d below = (h u k : ℕ) → holdsIn below d h u k ≡ mayHold e d h u
 abbrev pub isKind : ℕ → Bool
 isKind k = ltb k kinds
 
+abbrev pub isColumn : ℕ → Bool
+isColumn k = ltb k columns
+
 -- an edition is laid out in tables: tests over its lists, each proved by computing
 pub record LaidOut (e : Edition) : Type 0 where
-  -- every number in the edition's lists is a kind's
+  -- every number in the edition's lists is a kind's, and has a row and a column where it stands there
   pub named-kinds : every (λ n. isKind (n .0)) (e .names) ≡ true
   pub laid-kinds : every (λ g. every isKind (g .0)) (e .layout) ≡ true
   pub holds : (d : ℕ) → every (λ r. ltb (r .0) holders) (e .below d) ≡ true
-  pub held : (d : ℕ) → every (λ r. every isKind (r .1)) (e .below d) ≡ true
+  pub held : (d : ℕ) → every (λ r. every isColumn (r .1)) (e .below d) ≡ true
   -- identifiers and rows fit their places, and read back
   pub name : tab (nameIn (nameTable e)) 0 kinds ≡ tab (nameOf e) 0 kinds
   pub base : tab (baseIn (nameTable e)) 0 kinds ≡ tab (isBase e) 0 kinds

@@ -26,6 +26,10 @@ kinds = 74
 abbrev pub holders : ℕ
 holders = 68
 
+-- and a kind from this number on stands below nothing: no column
+abbrev pub columns : ℕ
+columns = 69
+
 -- a slot of the table of identifiers: the length, then seven bytes
 abbrev pub slot : ℕ
 slot = 8
@@ -106,7 +110,7 @@ rowsIn t k = tab (rowIn t k) 0 (countIn t k)
 
 -- Y in the row of h, at k
 unfoldable pub yesIn : List (List ℕ) → ℕ → ℕ → Bool
-yesIn t h k = ltb h holders && ltb k kinds && eqb (getD (getD t h []) k 0) 89
+yesIn t h k = ltb h holders && ltb k columns && eqb (getD (getD t h []) k 0) 89
 
 -- may a record of kind k stand directly below one of kind h, which belongs to one of kind u, by the table of the declarant d?
 unfoldable pub holdsIn : List (List ℕ) → ℕ → ℕ → ℕ → ℕ → Bool
@@ -129,7 +133,7 @@ yes false = 46
 
 -- of a declarant
 unfoldable pub belowTable : Edition → ℕ → List (List ℕ)
-belowTable e d = tab (λ h. tab (λ k. yes (isIn k (lookup [] (e .below d) h))) 0 kinds) 0 holders
+belowTable e d = tab (λ h. tab (λ k. yes (isIn k (lookup [] (e .below d) h))) 0 columns) 0 holders
 
 -- the five bytes of a row
 unfoldable pub formatByte : Format → ℕ
