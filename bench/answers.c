@@ -1,4 +1,4 @@
-/* answers LINES short|long|scp|older accepted|refused
+/* answers LINES short|long|scp|older|plan accepted|refused
    Prints the file's bytes and fails where a checker's answer is not the one expected, or the floor missed a line end. */
 #include <inttypes.h>
 #include <stdio.h>
@@ -39,7 +39,7 @@ static void show(const char *who, answer a)
 int main(int argc, char **argv)
 {
     if (argc < 4) {
-        fprintf(stderr, "answers LINES short|long|scp|older accepted|refused\n");
+        fprintf(stderr, "answers LINES short|long|scp|older|plan accepted|refused\n");
         return 2;
     }
     input in = input_make(argv[1], argv[2], argv[3]);

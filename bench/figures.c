@@ -7,6 +7,7 @@
 
 const char *const input_names[INPUTS] = {
     "short accepted", "short refused", "long accepted", "long refused", "scp accepted", "scp refused", "older accepted", "older refused",
+    "plan accepted", "plan refused",
 };
 const char *const which_names[WHICHES] = {"nothing", "floor", "tuned", "plain", "archive"};
 const unsigned size_lines[SIZES] = {600, 6000, 60000};

@@ -8,8 +8,8 @@
 enum measure { INSTRUCTIONS, NANOSECONDS, STACK, BYTES, MEASURES };
 enum which { NOTHING, FLOOR, TUNED, PLAIN, ARCHIVE, WHICHES };
 enum size { SIZE_600, SIZE_6000, SIZE_60000, SIZES };
-/* short, long, scp and older, each accepted and refused */
-enum { INPUTS = 8 };
+/* short, long, scp, older and plan, each accepted and refused */
+enum { INPUTS = 10 };
 
 /* The seconds are those of the quickest of so many calls that were timed; emulated ones are only ratios. */
 typedef struct {

@@ -22,7 +22,7 @@ _Static_assert(sizeof long_name == 61, "a name of 60 bytes");
 /* One beneficiary's records of thirteen amounts; the beneficiary stands before them and a RIO after them. */
 static const char *const long_values[] = {"RTRT", "RTPO", "RTDP", "RTIRF", "ESRT", "ESIR"};
 enum { LONG_GROUP = sizeof long_values / sizeof *long_values + 2 };
-enum { SHORT_GROUP = 4 };
+enum { SHORT_GROUP = 4, PENSION_GROUP = 8, PLAN_GROUP = 4 };
 
 static void stop(const char *what)
 {
@@ -61,19 +61,26 @@ static void put_cpf(input *in, unsigned number)
     in->len += CPF_SIZE;
 }
 
+/* A line with a CPF in field 2. */
+static void put_person(input *in, const char *front, unsigned number, const char *behind)
+{
+    put(in, front);
+    put_cpf(in, number);
+    put(in, behind);
+}
+
 static void put_beneficiary(input *in, unsigned number, const char *name, const char *birth)
 {
-    put(in, "BPFDEC|");
-    put_cpf(in, number);
-    put(in, "|");
+    put_person(in, "BPFDEC|", number, "|");
     put(in, name);
     put(in, "|");
     put(in, birth);
     put(in, "|N|N|\r\n");
 }
 
-static void put_short(input *in, unsigned i)
+static void put_short(input *in, unsigned i, unsigned lines)
 {
+    (void)lines;
     switch (i % SHORT_GROUP) {
     case 0: put_beneficiary(in, i / SHORT_GROUP, "ANA", ""); break;
     case 1: put(in, "RTRT|150000|||||||||||||\r\n"); break;
@@ -101,9 +108,10 @@ static void put_long_text(input *in)
     put(in, "|\r\n");
 }
 
-static void put_long(input *in, unsigned i)
+static void put_long(input *in, unsigned i, unsigned lines)
 {
     unsigned at = i % LONG_GROUP;
+    (void)lines;
     if (at == 0)
         put_beneficiary(in, i / LONG_GROUP, long_name, "19800229");
     else if (at == LONG_GROUP - 1)
@@ -113,27 +121,70 @@ static void put_long(input *in, unsigned i)
 }
 
 /* A record late in the list of kinds, with little else to look at: of one kind alone it is the dearest that was tried. */
-static void put_scp(input *in, unsigned i)
+static void put_scp(input *in, unsigned i, unsigned lines)
 {
-    put(in, "BPFSCP|");
-    put_cpf(in, i);
-    put(in, "|ANA||\r\n");
+    (void)lines;
+    put_person(in, "BPFSCP|", i, "|ANA||\r\n");
 }
 
-/* The edition of each shape, the line that opens its block, and its line number i after that. */
+/* A beneficiary with pay, a pension fund and alimony; the last line closes what was open below the beneficiary. */
+static void put_pension(input *in, unsigned i)
+{
+    unsigned number = i / PENSION_GROUP;
+    switch (i % PENSION_GROUP) {
+    case 0: put_person(in, "BPFDEC|", number, "|ANA||S|S|\r\n"); break;
+    case 1: put(in, "RTRT|150000|||||||||||||\r\n"); break;
+    case 2: put(in, "INFPC|11222333000181|FUNDO SERRA|\r\n"); break;
+    case 3: put(in, "RTPP|9050|||||||||||||\r\n"); break;
+    case 4: put(in, "ESPP||||||||||||700||\r\n"); break;
+    case 5: put_person(in, "INFPA|", number, "|20100315|BIA|03|\r\n"); break;
+    case 6: put(in, "RTPA|30000|||||||||||||\r\n"); break;
+    default: put(in, "RTIRF||9050||||||||||||\r\n"); break;
+    }
+}
+
+/* A holder of the health plan and a dependant, each with a refund. */
+static void put_holder(input *in, unsigned i)
+{
+    unsigned number = i / PLAN_GROUP;
+    switch (i % PLAN_GROUP) {
+    case 0: put_person(in, "TPSE|", number, "|ANA|120000|\r\n"); break;
+    case 1: put_person(in, "RTPSE|", number, "|CAIO|4000||\r\n"); break;
+    case 2: put_person(in, "DTPSE|", number, "|20100315|BIA|03|60000|\r\n"); break;
+    default: put(in, "RDTPSE|11222333000181|CLINICA SERRA|500|2500|\r\n"); break;
+    }
+}
+
+/* Two thirds of the lines stand below beneficiaries, the others in the health plan. */
+static void put_plan(input *in, unsigned i, unsigned lines)
+{
+    unsigned plan = lines / 3 * 2;
+    if (i < plan)
+        put_pension(in, i);
+    else if (i == plan)
+        put(in, "PSE|\r\n");
+    else if (i == plan + 1)
+        put(in, "OPSE|11222333000181|SAUDE SERRA|123456|\r\n");
+    else
+        put_holder(in, i - plan - 2);
+}
+
+/* The edition of each shape, the line that opens its block, the blocks that the declarant's flags tell of, and the line number i after
+   that of so many. */
 typedef struct {
     const char *name;
     plain_edition edition;
     const char *block;
-    int has_scp;
-    void (*put_line)(input *in, unsigned i);
+    unsigned blocks;
+    void (*put_line)(input *in, unsigned i, unsigned lines);
 } shape;
 
 static const shape shapes[] = {
     {"short", PLAIN_2025, "IDREC|0561|\r\n", 0, put_short},
     {"long", PLAIN_2025, "IDREC|0561|\r\n", 0, put_long},
-    {"scp", PLAIN_2025, "SCP|11222333000181|SCP SERRA|\r\n", 1, put_scp},
+    {"scp", PLAIN_2025, "SCP|11222333000181|SCP SERRA|\r\n", HAS_SCP, put_scp},
     {"older", PLAIN_2022, "IDREC|0561|\r\n", 0, put_short},
+    {"plan", PLAIN_2025, "IDREC|0561|\r\n", HAS_PSE, put_plan},
 };
 
 static const shape *shape_named(const char *name)
@@ -164,10 +215,11 @@ input input_make(const char *lines, const char *shape_name, const char *end)
         stop("no memory");
     put(&in, line_one(made->edition));
     put(&in, responsible);
-    in.len += make_declarant(1, made->has_scp, (char *)in.bytes + in.len);
+    in.len += make_declarant(1, made->blocks, (char *)in.bytes + in.len);
     put(&in, made->block);
-    for (unsigned i = 0; i < count - HEAD_LINES - 1; i++)
-        made->put_line(&in, i);
+    unsigned left = (unsigned)count - HEAD_LINES - 1;
+    for (unsigned i = 0; i < left; i++)
+        made->put_line(&in, i, left);
     /* without its bar the last line is refused with 8 */
     put(&in, refused ? "FIMDirf\r\n" : "FIMDirf|\r\n");
     return in;

@@ -1,4 +1,4 @@
-/* measure WHICH LINES short|long|scp|older accepted|refused
+/* measure WHICH LINES short|long|scp|older|plan accepted|refused
    Makes the file, makes the one call and prints what it answered: the same on every run, so that its instructions can be counted. */
 #include <inttypes.h>
 #include <stdio.h>
@@ -9,7 +9,7 @@
 int main(int argc, char **argv)
 {
     if (argc < 5) {
-        fprintf(stderr, "measure WHICH LINES short|long|scp|older accepted|refused\n");
+        fprintf(stderr, "measure WHICH LINES short|long|scp|older|plan accepted|refused\n");
         return 2;
     }
     call chosen = call_named(argv[1]);

@@ -5,7 +5,7 @@
 
 #include "targets.h"
 
-enum { WIDTH = 1620, HEIGHT = 700, LEFT = 80, RIGHT = 1600, PLOT = 190, STEPS = 4 };
+enum { WIDTH = 2000, HEIGHT = 700, LEFT = 80, RIGHT = 1980, PLOT = 190, STEPS = 4 };
 enum { MOST_BARS = 4, BAR_GAP = 6, GROUP_GAP = 30, UNDER_LINES = 2 };
 
 /* One chart: so many bars for each input, with what to call them, and lines of text under each input. */

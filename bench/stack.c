@@ -1,4 +1,4 @@
-/* stack WHICH LINES short|long|scp|older accepted|refused
+/* stack WHICH LINES short|long|scp|older|plan accepted|refused
    Makes the call on a stack of its own that was filled beforehand, and prints how many bytes of it lie above the deepest one changed. */
 #include <stdio.h>
 #include <string.h>
@@ -37,7 +37,7 @@ static size_t used(unsigned char pattern)
 int main(int argc, char **argv)
 {
     if (argc < 5) {
-        fprintf(stderr, "stack WHICH LINES short|long|scp|older accepted|refused\n");
+        fprintf(stderr, "stack WHICH LINES short|long|scp|older|plan accepted|refused\n");
         return 2;
     }
     chosen = call_named(argv[1]);

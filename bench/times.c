@@ -1,4 +1,4 @@
-/* times ROUNDS LINES short|long|scp|older accepted|refused WHICH...
+/* times ROUNDS LINES short|long|scp|older|plan accepted|refused WHICH...
    Makes the file and times the named calls on it, and prints for each its name and the nanoseconds of the quickest.
    They are made in rounds, one after another, so that what else the machine does meets all of them alike. */
 #define _POSIX_C_SOURCE 199309L
@@ -30,7 +30,7 @@ int main(int argc, char **argv)
 {
     int count = argc - WORDS;
     if (count < 1 || count > MOST_CALLS) {
-        fprintf(stderr, "times ROUNDS LINES short|long|scp|older accepted|refused WHICH...\n");
+        fprintf(stderr, "times ROUNDS LINES short|long|scp|older|plan accepted|refused WHICH...\n");
         return 2;
     }
     input in = input_make(argv[2], argv[3], argv[4]);

@@ -11,6 +11,9 @@ CPF_SIZE, CNPJ_SIZE, CHECK_SIZE = 11, 14, 2
 # the declarant's field that says whether there is such a block: 004's 3.3, 000's 3.4
 FLAGS = {"DECPF": {"PSE": 6, "SCP": 7}, "DECPJ": {"SCP": 6, "PSE": 10}}
 
+# a beneficiary's field that says whether such records stand below it: 000's 3.6 and 3.16
+INDICATORS = {"BPFDEC": {"INFPA": 5, "INFPC": 6}, "BPFRRA": {"INFPA": 6}}
+
 
 def rest(digits, weights):
     return sum(int(digit) * weight for digit, weight in zip(digits, weights)) % 11

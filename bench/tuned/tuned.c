@@ -1,4 +1,4 @@
-/* The check of a file: one pass over its lines. What is open is a word of bits, the kinds that may stand next. */
+/* The check of a file: one pass over its lines. What is open is two words of bits, the kinds that may stand next. */
 #include "tuned.h"
 
 #include <string.h>
@@ -13,11 +13,14 @@ enum { SLACK = 256 };
 
 typedef struct {
     const uint8_t *at, *end;                            /* the line's begin, and the end of the file */
-    uint64_t may, seen;                                 /* kinds that may stand next, values of the open beneficiary */
-    uint64_t known;                                     /* kinds of the edition */
+    uint64_t values, others;                            /* kinds that may stand next */
+    uint64_t own, seen;                                 /* values of the open beneficiary itself, and those that have come */
+    uint64_t known;                                     /* value kinds of the edition */
     const row *const *rows;                             /* the edition's */
-    const uint64_t *next;                               /* the declarant's */
+    const next_kinds *next;                             /* the declarant's */
     const uint8_t *block_key, *code_key, *person_key;   /* of the last one, in place; NULL where no code is open */
+    const uint8_t *pension_key, *relative_key;          /* of the person's last INFPC, and INFPA or DTPSE; NULL where there is none */
+    const uint8_t *refund_key;                          /* the same of RTPSE or RDTPSE */
     unsigned block, person;                             /* the kinds that are open, or KINDS */
     unsigned place;                                     /* the block's */
     int in_tail;
@@ -31,7 +34,8 @@ static const breach none = {0, 0}, repeated = {21, 1}, key_not_greater = {20, 2}
 
 static void stand_at(check *c, unsigned place)
 {
-    c->may = c->next[place] & c->known;
+    c->values = c->own = c->next[place].values & c->known;
+    c->others = c->next[place].others;
 }
 
 /* Keys of one size, at least eight digits. */
@@ -52,23 +56,72 @@ static int pair_rises(const uint8_t *key, const uint8_t *before)
     return 0;
 }
 
+/* A CPF and then a date, each of which may be empty, the least. */
+static int relative_rises(const uint8_t *key, const uint8_t *before)
+{
+    size_t cpf = *key == BAR ? 0 : CPF_SIZE, cpf_before = *before == BAR ? 0 : CPF_SIZE;
+    if (cpf != cpf_before)
+        return cpf != 0;
+    if (cpf != 0 && memcmp(key, before, CPF_SIZE) != 0)
+        return key_rises(key, before, CPF_SIZE);
+    key += cpf + 1;
+    before += cpf + 1;
+    return *key != BAR && (*before == BAR || load_to_compare(key) > load_to_compare(before));
+}
+
+/* Every CPF before every CNPJ. */
+static int refund_rises(const uint8_t *key, const uint8_t *before)
+{
+    int person = key[CPF_SIZE] == BAR;
+    if (person != (before[CPF_SIZE] == BAR))
+        return !person;
+    return key_rises(key, before, person ? CPF_SIZE : CNPJ_SIZE);
+}
+
+/* INFPC, INFPA and DTPSE: one closes what stood open beside it, and nothing of what may stand below it has come yet. */
+static breach open_group(check *c, unsigned kind, const uint8_t *key)
+{
+    const uint8_t **last = kind == INFPC ? &c->pension_key : &c->relative_key;
+    if (*last != NULL && !(kind == INFPC ? key_rises(key, *last, CNPJ_SIZE) : relative_rises(key, *last)))
+        return key_not_greater;
+    *last = key;
+    if (kind == DTPSE) {
+        c->refund_key = NULL;
+        stand_at(c, OF_DTPSE);
+        return none;
+    }
+    uint64_t below = kind == INFPC ? tuned_pension[c->next != tuned_next[0]] : c->person == BPFRRA ? PAST_ALIMONY : ALIMONY;
+    c->values = c->own | below;
+    c->seen &= ~below;
+    return none;
+}
+
+static breach add_refund(check *c, const uint8_t *key)
+{
+    if (c->refund_key != NULL && !refund_rises(key, c->refund_key))
+        return key_not_greater;
+    c->refund_key = key;
+    return none;
+}
+
 static breach open_person(check *c, unsigned kind, const uint8_t *key)
 {
-    if (c->person == kind) {
-        if (!key_rises(key, c->person_key, c->rows[kind]->size))
-            return key_not_greater;
-    } else {
-        c->person = kind;
+    if (c->person == kind && !key_rises(key, c->person_key, c->rows[kind]->size))
+        return key_not_greater;
+    /* of one kind after another only what a group or a DTPSE left is undone */
+    if (c->person != kind || kind == TPSE)
         stand_at(c, OF_BPFDEC + kind - BPFDEC);
-    }
+    c->person = kind;
+    c->values = c->own;
     c->person_key = key;
+    c->pension_key = c->relative_key = c->refund_key = NULL;
     c->seen = 0;
     return none;
 }
 
-static breach open_code(check *c, const uint8_t *key)
+static breach open_code(check *c, unsigned kind, const uint8_t *key)
 {
-    if (c->code_key != NULL && memcmp(key, c->code_key, CODE_SIZE) <= 0)
+    if (c->code_key != NULL && memcmp(key, c->code_key, kind == IDREC ? CODE_SIZE : CNPJ_SIZE) <= 0)
         return key_not_greater;
     c->code_key = key;
     c->person = KINDS;
@@ -76,13 +129,17 @@ static breach open_code(check *c, const uint8_t *key)
     return none;
 }
 
+static int block_rises(const check *c, unsigned kind, const uint8_t *key)
+{
+    return kind == PROC || kind == RRA ? pair_rises(key, c->block_key) : key_rises(key, c->block_key, c->rows[kind]->size);
+}
+
 static breach open_block(check *c, unsigned kind, const uint8_t *key)
 {
-    int pair = kind == PROC || kind == RRA;
-    uint32_t field = pair ? tuned_lawyer(key) : 0;
+    uint32_t field = kind == PROC || kind == RRA ? tuned_lawyer(key) : 0;
     if (field != 0)
         return (breach){19, field};
-    if (c->block == kind && !(pair ? pair_rises(key, c->block_key) : key_rises(key, c->block_key, c->rows[kind]->size)))
+    if (c->block == kind && !block_rises(c, kind, key))
         return key_not_greater;
     c->block = kind;
     c->block_key = key;
@@ -119,25 +176,30 @@ static breach open_record(check *c, unsigned kind, const uint8_t *key)
         if (c->seen & BIT(kind))
             return repeated;
         c->seen |= BIT(kind);
+        /* a value of the beneficiary itself closes an INFPC or INFPA */
+        if (c->own >> kind & 1)
+            c->values = c->own;
         return none;
     }
+    if (kind < BPFDEC)
+        return kind == RTPSE || kind == RDTPSE ? add_refund(c, key) : open_group(c, kind, key);
     if (kind < IDREC)
         return open_person(c, kind, key);
-    if (kind == IDREC)
-        return open_code(c, key);
+    if (kind < FCI)
+        return open_code(c, kind, key);
     return kind < DIRF ? open_block(c, kind, key) : open_head(c, kind);
 }
 
 static breach unplaced(const check *c, unsigned kind)
 {
-    uint32_t number = kind == LATER ? 10 : kind == UNKNOWN || !(c->known & BIT(kind)) ? 9 : 12;
-    return tuned_settle(&(stopped){c->at, c->end, NULL, {NULL, c->at}, number});
+    int unknown = kind == UNKNOWN || (kind < VALUES && !(c->known >> kind & 1));
+    return tuned_settle(&(stopped){c->at, c->end, NULL, {NULL, c->at}, kind == LATER ? 10 : unknown ? 9 : 12});
 }
 
 static breach check_line(check *c)
 {
     unsigned kind = kind_of(c->at);
-    if (!(c->may >> kind & 1))
+    if (!(kind < VALUES ? c->values >> kind & 1 : c->others >> (kind - VALUES) & 1))
         return unplaced(c, kind);
     const uint8_t *key = c->at + name_len[kind] + 1;
     walk w = pass_fields((walk){c->rows[kind], key});
@@ -165,8 +227,9 @@ static int near_end(check *c, uint8_t *tail)
 static check begin(const uint8_t *file, size_t len)
 {
     enum edition edition = tuned_edition(file, len);
-    check c = {.at = file, .end = file + len, .may = tuned_next[0][FOR_DIRF], .block = KINDS, .person = KINDS, .next = tuned_next[0]};
+    check c = {.at = file, .end = file + len, .block = KINDS, .person = KINDS, .next = tuned_next[0]};
     c.known = edition == NEWER ? ~UINT64_C(0) : ~(BIT(RTDS) | BIT(ESDS));
+    stand_at(&c, FOR_DIRF);
     c.rows = tuned_rows[edition];
     c.year = edition == NEWER ? 2025 : 2022;
     return c;

@@ -4,19 +4,22 @@
 
 #include "tuned.h"
 
-/* The base kinds fit one word of bits. Value kinds come first, so that a small number is one of them. */
+/* Value kinds come first, so that a small number is one of them; they fit one word of bits, and the others another. */
 enum kind {
     RTRT, RTPO, RTDP, RTDS, RTIRF, CJAC, CJAA, ESRT, ESPO, ESDP, ESDS, ESIR, ESDJ,
-    RTPP, RTFA, RTSP, ESPP, ESFA, ESSP, RTPA, ESPA,
+    RTPP, RTFA, RTSP, RTEP, ESPP, ESFA, ESSP, ESEP, RTPA, ESPA,
     RIDAC, RIIRP, RIAP, RIMOG, RIP65, RIBMR, RICAP, RIRPC, DAJUD, RISCP,
     RIL96, RIPTS, RIJMRE, RIRSR, RIO, QTMESES,
     VALUES,
-    BPFDEC = VALUES, BPJDEC, BPFFCI, BPJFCI, BPFPROC, BPJPROC, BPFRRA, BPFSCP, BPJSCP,
-    IDREC, FCI, PROC, RRA, SCP,
+    /* the deepest records that have a key */
+    INFPC = VALUES, INFPA, RTPSE, DTPSE, RDTPSE,
+    BPFDEC, BPJDEC, BPFFCI, BPJFCI, BPFPROC, BPJPROC, BPFRRA, BPFSCP, BPJSCP, TPSE,
+    IDREC, OPSE,
+    FCI, PROC, RRA, SCP, PSE,
     DIRF, RESPO, DECPF, DECPJ, FIMDIRF,
     KINDS,
-    /* bits that no place ever has */
-    LATER = 62, UNKNOWN = 63
+    /* no place ever has these */
+    LATER = KINDS, UNKNOWN
 };
 
 enum edition { NEWER, OLDER, EDITIONS };
@@ -32,18 +35,29 @@ typedef struct { uint8_t op, size, count, must, values; } row;
 extern const row *const tuned_rows[EDITIONS][KINDS];
 extern const char *const tuned_values[];
 
-/* Where a check stands: what is open. An IDREC's place follows that of its block. */
+/* Where a check stands: what is open. The place of an IDREC or OPSE follows that of its block. */
 enum place {
     FOR_DIRF, FOR_RESPO, FOR_DECLARANT,
-    NO_BLOCK, NO_BLOCK_CODE, IN_FCI, IN_FCI_CODE, IN_PROC, IN_PROC_CODE, IN_RRA, IN_RRA_CODE, IN_SCP,
-    OF_BPFDEC, OF_BPJDEC, OF_BPFFCI, OF_BPJFCI, OF_BPFPROC, OF_BPJPROC, OF_BPFRRA, OF_BPFSCP, OF_BPJSCP,
+    NO_BLOCK, NO_BLOCK_CODE, IN_FCI, IN_FCI_CODE, IN_PROC, IN_PROC_CODE, IN_RRA, IN_RRA_CODE, IN_SCP, IN_SCP_CODE, IN_PSE, IN_PSE_CODE,
+    OF_BPFDEC, OF_BPJDEC, OF_BPFFCI, OF_BPJFCI, OF_BPFPROC, OF_BPJPROC, OF_BPFRRA, OF_BPFSCP, OF_BPJSCP, OF_TPSE, OF_DTPSE,
     PLACES
 };
 
-/* Which kinds may stand next, one bit each: under DECPF, then under DECPJ. */
-extern const uint64_t tuned_next[2][PLACES];
+/* Value kinds that may stand next, one bit each, and the other kinds. */
+typedef struct { uint64_t values, others; } next_kinds;
+
+/* Under DECPF, then under DECPJ. */
+extern const next_kinds tuned_next[2][PLACES];
+
+/* The values of an INFPC under either declarant. */
+extern const uint64_t tuned_pension[2];
 
 #define BIT(kind) (UINT64_C(1) << (kind))
+#define OTHER(kind) (UINT64_C(1) << ((kind) - VALUES))
+
+/* The values of an INFPA, and those that a BPFRRA's has. */
+#define ALIMONY (BIT(RTPA) | BIT(ESPA))
+#define PAST_ALIMONY BIT(RTPA)
 
 /* How far the fields of a line passed: at the row DONE all did; else `at` is where the first that did not begins. */
 typedef struct { const row *row; const uint8_t *at; } walk;

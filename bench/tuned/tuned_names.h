@@ -34,7 +34,7 @@ static inline unsigned four_r(uint64_t rest)
     case THREE('T', 'S', 'P'): return RTSP;
     case THREE('T', 'P', 'A'): return RTPA;
     case THREE('I', 'A', 'P'): return RIAP;
-    case THREE('T', 'E', 'P'): return LATER;
+    case THREE('T', 'E', 'P'): return RTEP;
     case THREE('P', 'D', 'E'): return LATER;
     default: return UNKNOWN;
     }
@@ -53,7 +53,7 @@ static inline unsigned four_e(uint64_t rest)
     case THREE('S', 'F', 'A'): return ESFA;
     case THREE('S', 'S', 'P'): return ESSP;
     case THREE('S', 'P', 'A'): return ESPA;
-    case THREE('S', 'E', 'P'): return LATER;
+    case THREE('S', 'E', 'P'): return ESEP;
     default: return UNKNOWN;
     }
 }
@@ -76,7 +76,7 @@ static inline unsigned five_r(uint64_t rest)
     case FOUR('E', 'S', 'P', 'O'): return RESPO;
     case FOUR('I', 'M', 'U', 'N'): return LATER;
     case FOUR('I', 'S', 'E', 'N'): return LATER;
-    case FOUR('T', 'P', 'S', 'E'): return LATER;
+    case FOUR('T', 'P', 'S', 'E'): return RTPSE;
     default: return UNKNOWN;
     }
 }
@@ -87,7 +87,7 @@ static inline unsigned five_d(uint64_t rest)
     case FOUR('E', 'C', 'P', 'F'): return DECPF;
     case FOUR('E', 'C', 'P', 'J'): return DECPJ;
     case FOUR('A', 'J', 'U', 'D'): return DAJUD;
-    case FOUR('T', 'P', 'S', 'E'): return LATER;
+    case FOUR('T', 'P', 'S', 'E'): return DTPSE;
     default: return UNKNOWN;
     }
 }
@@ -96,8 +96,8 @@ static inline unsigned five_i(uint64_t rest)
 {
     switch (rest) {
     case FOUR('D', 'R', 'E', 'C'): return IDREC;
-    case FOUR('N', 'F', 'P', 'C'): return LATER;
-    case FOUR('N', 'F', 'P', 'A'): return LATER;
+    case FOUR('N', 'F', 'P', 'C'): return INFPC;
+    case FOUR('N', 'F', 'P', 'A'): return INFPA;
     default: return UNKNOWN;
     }
 }
@@ -125,7 +125,7 @@ static inline unsigned six_b(uint64_t rest)
 
 static inline unsigned six_r(uint64_t rest)
 {
-    return rest == FIVE('I', 'J', 'M', 'R', 'E') ? RIJMRE : is(rest, FIVE('D', 'T', 'P', 'S', 'E'), LATER);
+    return rest == FIVE('I', 'J', 'M', 'R', 'E') ? RIJMRE : is(rest, FIVE('D', 'T', 'P', 'S', 'E'), RDTPSE);
 }
 
 static inline unsigned seven_b(uint64_t rest)
@@ -144,7 +144,7 @@ static inline unsigned of_three(uint64_t rest, uint8_t first)
     case 'R': return three_r(rest);
     case 'F': return is(rest, TWO('C', 'I'), FCI);
     case 'S': return is(rest, TWO('C', 'P'), SCP);
-    case 'P': return is(rest, TWO('S', 'E'), LATER);
+    case 'P': return is(rest, TWO('S', 'E'), PSE);
     case 'I': return is(rest, TWO('N', 'F'), LATER);
     default: return UNKNOWN;
     }
@@ -158,8 +158,8 @@ static inline unsigned of_four(uint64_t rest, uint8_t first)
     case 'C': return four_c(rest);
     case 'P': return is(rest, THREE('R', 'O', 'C'), PROC);
     case 'D': return is(rest, THREE('i', 'r', 'f'), DIRF);
-    case 'O': return is(rest, THREE('P', 'S', 'E'), LATER);
-    case 'T': return is(rest, THREE('P', 'S', 'E'), LATER);
+    case 'O': return is(rest, THREE('P', 'S', 'E'), OPSE);
+    case 'T': return is(rest, THREE('P', 'S', 'E'), TPSE);
     default: return UNKNOWN;
     }
 }
@@ -209,7 +209,8 @@ static inline unsigned kind_of(const uint8_t *at)
 
 static const uint8_t name_len[KINDS] = {
     [RTRT] = 4, [RTPO] = 4, [RTDP] = 4, [RTDS] = 4, [RTIRF] = 5, [CJAC] = 4, [CJAA] = 4, [ESRT] = 4, [ESPO] = 4, [ESDP] = 4, [ESDS] = 4,
-    [ESIR] = 4, [ESDJ] = 4, [RTPP] = 4, [RTFA] = 4, [RTSP] = 4, [ESPP] = 4, [ESFA] = 4, [ESSP] = 4, [RTPA] = 4, [ESPA] = 4,
+    [ESIR] = 4, [ESDJ] = 4, [RTPP] = 4, [RTFA] = 4, [RTSP] = 4, [RTEP] = 4, [ESPP] = 4, [ESFA] = 4, [ESSP] = 4, [ESEP] = 4, [RTPA] = 4,
+    [ESPA] = 4, [INFPC] = 5, [INFPA] = 5, [RTPSE] = 5, [DTPSE] = 5, [RDTPSE] = 6, [TPSE] = 4, [OPSE] = 4, [PSE] = 3,
     [RIDAC] = 5, [RIIRP] = 5, [RIAP] = 4, [RIMOG] = 5, [RIP65] = 5, [RIBMR] = 5, [RICAP] = 5, [RIRPC] = 5, [DAJUD] = 5, [RISCP] = 5,
     [RIL96] = 5, [RIPTS] = 5, [RIJMRE] = 6, [RIRSR] = 5, [RIO] = 3, [QTMESES] = 7,
     [BPFDEC] = 6, [BPJDEC] = 6, [BPFFCI] = 6, [BPJFCI] = 6, [BPFPROC] = 7, [BPJPROC] = 7, [BPFRRA] = 6, [BPFSCP] = 6, [BPJSCP] = 6,

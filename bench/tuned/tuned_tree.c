@@ -1,11 +1,12 @@
-/* Which kinds may stand next at each place, lists 2.1 and 2.2 with document 01's order of blocks and beneficiaries in them. */
+/* Which kinds may stand next at each place, lists 2.1 and 2.2 with the order of blocks, beneficiaries and refunds in them. */
 #include "tuned_inner.h"
 
 /* A declaration may end anywhere behind its declarant. */
-#define BEHIND_SCP (BIT(SCP) | BIT(FIMDIRF))
-#define BEHIND_RRA (BIT(IDREC) | BIT(RRA) | BEHIND_SCP)
-#define BEHIND_PROC (BEHIND_RRA | BIT(PROC))
-#define BEHIND_FCI (BEHIND_PROC | BIT(FCI))
+#define BEHIND_TPSE (OTHER(OPSE) | OTHER(TPSE) | OTHER(DTPSE) | OTHER(FIMDIRF))
+#define BEHIND_SCP (OTHER(SCP) | OTHER(PSE) | OTHER(FIMDIRF))
+#define BEHIND_RRA (OTHER(IDREC) | OTHER(RRA) | BEHIND_SCP)
+#define BEHIND_PROC (BEHIND_RRA | OTHER(PROC))
+#define BEHIND_FCI (BEHIND_PROC | OTHER(FCI))
 
 #define PAY (BIT(RTRT) | BIT(RTIRF))
 #define PROCESS_PAY \
@@ -20,41 +21,56 @@
     (PROCESS_PAY | BIT(RTPP) | BIT(RTFA) | BIT(RTSP) | BIT(ESPP) | BIT(ESFA) | BIT(ESSP) | BIT(RTPA) | BIT(ESPA) | BIT(RIMOG) \
      | BIT(RIRSR))
 #define PAST_PAY (PAY | BIT(RTPO) | BIT(DAJUD) | BIT(QTMESES) | BIT(RIJMRE))
+#define PENSION (BIT(RTPP) | BIT(RTFA) | BIT(ESPP) | BIT(ESFA))
 
-const uint64_t tuned_next[2][PLACES] = {
+const uint64_t tuned_pension[2] = {PENSION, PENSION | BIT(RTSP) | BIT(RTEP) | BIT(ESSP) | BIT(ESEP)};
+
+/* the same under both */
+#define RRA_PLACES \
+    [IN_RRA] = {0, BEHIND_RRA}, \
+    [IN_RRA_CODE] = {0, BEHIND_RRA | OTHER(BPFRRA)}
+#define SCP_PLACES \
+    [IN_SCP] = {0, BEHIND_SCP | OTHER(BPFSCP) | OTHER(BPJSCP)}, \
+    [OF_BPFSCP] = {BIT(RISCP), BEHIND_SCP | OTHER(BPFSCP) | OTHER(BPJSCP)}, \
+    [OF_BPJSCP] = {BIT(RISCP), BEHIND_SCP | OTHER(BPJSCP)}
+#define PSE_PLACES \
+    [IN_PSE] = {0, OTHER(OPSE) | OTHER(FIMDIRF)}, \
+    [IN_PSE_CODE] = {0, OTHER(OPSE) | OTHER(TPSE) | OTHER(FIMDIRF)}, \
+    [OF_TPSE] = {0, BEHIND_TPSE | OTHER(RTPSE)}, \
+    [OF_DTPSE] = {0, BEHIND_TPSE | OTHER(RDTPSE)}
+
+#define GROUPS (OTHER(INFPC) | OTHER(INFPA))
+
+const next_kinds tuned_next[2][PLACES] = {
     {
-        [FOR_DIRF] = BIT(DIRF),
-        [FOR_RESPO] = BIT(RESPO),
-        [FOR_DECLARANT] = BIT(DECPF) | BIT(DECPJ),
-        [NO_BLOCK] = BEHIND_RRA,
-        [NO_BLOCK_CODE] = BEHIND_RRA | BIT(BPFDEC) | BIT(BPJDEC),
-        [OF_BPFDEC] = BEHIND_RRA | BIT(BPFDEC) | BIT(BPJDEC) | PERSON_PAY,
-        [OF_BPJDEC] = BEHIND_RRA | BIT(BPJDEC) | PAY,
-        [IN_RRA] = BEHIND_RRA,
-        [IN_RRA_CODE] = BEHIND_RRA | BIT(BPFRRA),
-        [OF_BPFRRA] = BEHIND_RRA | BIT(BPFRRA) | PAST_PAY,
-        [IN_SCP] = BEHIND_SCP | BIT(BPFSCP) | BIT(BPJSCP),
-        [OF_BPFSCP] = BEHIND_SCP | BIT(BPFSCP) | BIT(BPJSCP) | BIT(RISCP),
-        [OF_BPJSCP] = BEHIND_SCP | BIT(BPJSCP) | BIT(RISCP),
+        [FOR_DIRF] = {0, OTHER(DIRF)},
+        [FOR_RESPO] = {0, OTHER(RESPO)},
+        [FOR_DECLARANT] = {0, OTHER(DECPF) | OTHER(DECPJ)},
+        [NO_BLOCK] = {0, BEHIND_RRA},
+        [NO_BLOCK_CODE] = {0, BEHIND_RRA | OTHER(BPFDEC) | OTHER(BPJDEC)},
+        [OF_BPFDEC] = {PERSON_PAY, BEHIND_RRA | OTHER(BPFDEC) | OTHER(BPJDEC) | GROUPS},
+        [OF_BPJDEC] = {PAY, BEHIND_RRA | OTHER(BPJDEC)},
+        RRA_PLACES,
+        [OF_BPFRRA] = {PAST_PAY, BEHIND_RRA | OTHER(BPFRRA) | OTHER(INFPA)},
+        SCP_PLACES,
+        PSE_PLACES,
     },
     {
-        [NO_BLOCK] = BEHIND_FCI,
-        [NO_BLOCK_CODE] = BEHIND_FCI | BIT(BPFDEC) | BIT(BPJDEC),
-        [OF_BPFDEC] = BEHIND_FCI | BIT(BPFDEC) | BIT(BPJDEC) | COMPANY_PERSON_PAY,
-        [OF_BPJDEC] = BEHIND_FCI | BIT(BPJDEC) | PAY,
-        [IN_FCI] = BEHIND_FCI,
-        [IN_FCI_CODE] = BEHIND_FCI | BIT(BPFFCI) | BIT(BPJFCI),
-        [OF_BPFFCI] = BEHIND_FCI | BIT(BPFFCI) | BIT(BPJFCI) | FUND_PAY,
-        [OF_BPJFCI] = BEHIND_FCI | BIT(BPJFCI) | PAY,
-        [IN_PROC] = BEHIND_PROC,
-        [IN_PROC_CODE] = BEHIND_PROC | BIT(BPFPROC) | BIT(BPJPROC),
-        [OF_BPFPROC] = BEHIND_PROC | BIT(BPFPROC) | BIT(BPJPROC) | COMPANY_PROCESS_PAY,
-        [OF_BPJPROC] = BEHIND_PROC | BIT(BPJPROC) | PAY | BIT(RIRSR),
-        [IN_RRA] = BEHIND_RRA,
-        [IN_RRA_CODE] = BEHIND_RRA | BIT(BPFRRA),
-        [OF_BPFRRA] = BEHIND_RRA | BIT(BPFRRA) | PAST_PAY | BIT(RIMOG) | BIT(RIP65),
-        [IN_SCP] = BEHIND_SCP | BIT(BPFSCP) | BIT(BPJSCP),
-        [OF_BPFSCP] = BEHIND_SCP | BIT(BPFSCP) | BIT(BPJSCP) | BIT(RISCP),
-        [OF_BPJSCP] = BEHIND_SCP | BIT(BPJSCP) | BIT(RISCP),
+        [NO_BLOCK] = {0, BEHIND_FCI},
+        [NO_BLOCK_CODE] = {0, BEHIND_FCI | OTHER(BPFDEC) | OTHER(BPJDEC)},
+        [OF_BPFDEC] = {COMPANY_PERSON_PAY, BEHIND_FCI | OTHER(BPFDEC) | OTHER(BPJDEC) | GROUPS},
+        [OF_BPJDEC] = {PAY, BEHIND_FCI | OTHER(BPJDEC)},
+        [IN_FCI] = {0, BEHIND_FCI},
+        [IN_FCI_CODE] = {0, BEHIND_FCI | OTHER(BPFFCI) | OTHER(BPJFCI)},
+        [OF_BPFFCI] = {FUND_PAY, BEHIND_FCI | OTHER(BPFFCI) | OTHER(BPJFCI)},
+        [OF_BPJFCI] = {PAY, BEHIND_FCI | OTHER(BPJFCI)},
+        [IN_PROC] = {0, BEHIND_PROC},
+        [IN_PROC_CODE] = {0, BEHIND_PROC | OTHER(BPFPROC) | OTHER(BPJPROC)},
+        [OF_BPFPROC] = {COMPANY_PROCESS_PAY, BEHIND_PROC | OTHER(BPFPROC) | OTHER(BPJPROC)},
+        [OF_BPJPROC] = {PAY | BIT(RIRSR), BEHIND_PROC | OTHER(BPJPROC)},
+        RRA_PLACES,
+        [OF_BPFRRA] = {PAST_PAY | BIT(RIMOG) | BIT(RIP65), BEHIND_RRA | OTHER(BPFRRA) | OTHER(INFPA)},
+        SCP_PLACES,
+        PSE_PLACES,
     },
 };

@@ -293,7 +293,7 @@ static void hold_case(uint64_t seed, met *m)
     room = chance(4) ? NO_LIMIT : chance(d.count + 2);
     answer a = hold_counted(file.bytes, file.len, m);
     count_file(m, (part){file.bytes, file.len}, (plain_answer){a.number, a.line, a.field, 0}, p);
-    count_plan(m, &d, p, plain_edition_of(file.bytes, file.len), a.number);
+    count_plan(m, p, a.number);
     size_t from = chance((uint32_t)file.len + 1);
     hold_place(file.bytes + from, chance((uint32_t)(file.len - from) + 1) % 400);
     hold_amount();

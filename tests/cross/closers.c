@@ -1,11 +1,12 @@
 #include "closers.h"
 
+#include <stdlib.h>
 #include <string.h>
 
 #include "../makers/people.h"
 #include "chance.h"
 #include "faults.h"
-#include "sound.h"
+#include "whole.h"
 
 void cut_at_line(file_text *file)
 {
@@ -17,18 +18,30 @@ void cut_at_line(file_text *file)
     file->len = ends[chance((uint32_t)count)];
 }
 
-/* Whether the declarant in line 3 says that there is an SCP, and none has come. The file is one of whole lines. */
-static int owes_scp(const file_text *file)
+/* The blocks that a declarant's flags speak of. */
+static unsigned blocks_of(const uint8_t *line, size_t len)
 {
-    int owes = 0;
-    size_t from = 0, start, length, len;
+    int company = memcmp(line, "DECPJ", 5) == 0;
+    size_t scp, pse, length;
+    plain_field(line, len, company ? DECPJ_SCP_FLAG : DECPF_SCP_FLAG, &scp, &length);
+    plain_field(line, len, company ? DECPJ_PSE_FLAG : DECPF_PSE_FLAG, &pse, &length);
+    return (line[scp] == 'S' ? HAS_SCP : 0) | (line[pse] == 'S' ? HAS_PSE : 0);
+}
+
+/* The blocks that the declarant in line 3 says there are, and that have not come; behind a PSE no SCP may. The file is one of whole lines
+   and good so far. */
+static unsigned owed(const file_text *file)
+{
+    unsigned owes = 0;
+    size_t from = 0, len;
     for (unsigned number = 1; from < file->len; number++, from += len) {
         const uint8_t *line = file->bytes + from;
         len = (size_t)((const uint8_t *)memchr(line, '\n', file->len - from) - line) + 1;
-        unsigned flag = memcmp(line, "DECPJ", 5) == 0 ? DECPJ_SCP_FLAG : DECPF_SCP_FLAG;
-        if (number == 3 && plain_field(line, len, flag, &start, &length))
-            owes = line[start] == 'S';
+        if (number == 3)
+            owes = blocks_of(line, len);
         if (memcmp(line, "SCP|", 4) == 0)
+            owes &= HAS_PSE;
+        if (memcmp(line, "PSE|", 4) == 0)
             return 0;
     }
     return owes;
@@ -52,9 +65,16 @@ unsigned close_file(file_text *file, unsigned lines)
         more += put_line(file, "RESPO|11144477735|ANA LIMA|11|33334444||||\r\n");
     if (lines < 3)
         more += put_line(file, declarant);
-    if (owes_scp(file))
+    unsigned owes = owed(file);
+    if (owes & HAS_SCP)
         more += put_line(file, "SCP|11222333000181|SCP SERRA|\r\n");
-    return more + put_line(file, "FIMDirf|\r\n");
+    if (owes & HAS_PSE)
+        more += put_line(file, "PSE|\r\n");
+    more += put_line(file, "FIMDirf|\r\n");
+    /* demand 3 promises no more */
+    if (more > MOST_CLOSERS)
+        abort();
+    return more;
 }
 
 void add_tail(file_text *file)

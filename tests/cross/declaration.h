@@ -7,7 +7,7 @@
 
 #include "../plain/plain.h"
 
-enum { MOST_LINES = 80, MOST_BYTES = 1200, MOST_FILE = 1 << 17 };
+enum { MOST_LINES = 96, MOST_BYTES = 1200, MOST_FILE = 1 << 17 };
 
 /* One line: its edition and kind when it was made, its bytes, and what ends it. */
 typedef struct {

@@ -5,6 +5,7 @@
 #include "faults.h"
 #include "fed.h"
 #include "sound.h"
+#include "whole.h"
 
 static void take_file(fed *c, const file_text *file)
 {
@@ -46,7 +47,7 @@ static void check_case(fed *c, uint64_t seed, met *m)
     plain_answer a = plain_check_room(c->bytes, c->len, c->number / 4);
     m->number[a.number]++;
     count_file(m, (part){c->bytes, c->len}, a, p);
-    count_plan(m, &d, p, plain_edition_of(c->bytes, c->len), a.number);
+    count_plan(m, p, a.number);
 }
 
 /* The fields of a line as the writer takes them: contents one after another, and lengths. */

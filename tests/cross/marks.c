@@ -106,7 +106,7 @@ const first_line first_lines[] = {
     {"Dirf|2022|2021|N|||XJFSFHB|", 2025},
     /* other records */
     {"RTDS|2022|2021|N||XJFSFHB|", 2022}, {"ESDS|2022|2021|N||XJFSFHB|", 2022}, {"RTDS|||||XJFSFHB|||||||||", 2022},
-    {"RTDS|2022|2021|N||R6GP3ZA|", 2025}, {"ESDS|2022|2021|N||R6GP3ZA|", 2025}, {"INFPC|||||XJFSFHB|", 2022},
+    {"RTDS|2022|2021|N||R6GP3ZA|", 2025}, {"ESDS|2022|2021|N||R6GP3ZA|", 2025}, {"VPEIM|||||XJFSFHB|", 2022},
     {"FIMDirf|||||XJFSFHB|", 2022},
     /* a lone CR or LF, which ends nothing and is a byte of its field */
     {"\rDirf|2022|2021|N||XJFSFHB|", 2022}, {"\nDirf|2022|2021|N||XJFSFHB|", 2022}, {"Dirf|2022\r|2021|N||XJFSFHB|", 2022},

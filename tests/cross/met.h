@@ -3,25 +3,11 @@
 #define MET_H
 
 #include "../plain/plain_inner.h"
+#include "breaks.h"
 #include "cases.h"
 #include "faults.h"
-
-/* The ways in which a field is refused with 26, by the digits that it has, and with 19, by the condition that is broken. */
-enum { CONDITIONS = 9 };
-enum { WRONG_CPF, WRONG_CNPJ, FIRST_CONDITION, WAYS = FIRST_CONDITION + CONDITIONS };
-
-/* How often each was the answer. */
-typedef struct {
-    unsigned long count[EDITIONS][KINDS + 1][MOST_FIELDS + 1][WAYS];
-} ways_met;
-
-/* A line that was refused, and all the fields that a line can have; those that this one has not are empty. */
-typedef struct {
-    plain_edition edition;
-    unsigned kind;
-    fault found;
-    part fields[MOST_FIELDS];
-} refusal;
+#include "met_records.h"
+#include "met_ways.h"
 
 /* An edition is here the one that a file is judged by. But for the numbers only what comes from a seed is counted, so that the listed
    files do not stand in for it. */
@@ -30,7 +16,8 @@ typedef struct {
     unsigned long alone[LAST_RULE + 1];                         /* a rule broken alone, answered with its own number */
     unsigned long pair[LAST_RULE + 1][LAST_RULE + 1];           /* two rules broken in one file */
     unsigned long files[EDITIONS], taken[EDITIONS];             /* files, and those of them that were accepted */
-    unsigned long accepted[EDITIONS][DECPJ + 1][KINDS + 1];     /* kinds in accepted files, by the declarant's kind */
+    unsigned long listed[EDITIONS][BREAKS];                     /* a listed break, answered with its number at its line */
+    records_met records;                                        /* the records of accepted files */
     unsigned long lacked[KINDS + 1][2];                         /* 9 for a kind of 2025 in an older file: in line 1, in a later one */
     unsigned long closed[EDITIONS], fixed[EDITIONS];            /* cuts that were closed, and cuts at which every tail changed nothing */
     unsigned long begun[EDITIONS];                              /* of the cuts that were closed those with no line at all */
@@ -42,11 +29,8 @@ typedef struct {
 /* Counts a file by its edition, with its answer and what was done to it. */
 void count_file(met *m, part file, plain_answer a, plan p);
 
-/* Counts a 26 or a 19, where it is by one of the ways. */
-void count_refusal(ways_met *m, const refusal *r);
-
-/* Counts what the answer to a file of this edition shows of its plan. */
-void count_plan(met *m, const declaration *d, plan p, plain_edition edition, unsigned number);
+/* Counts what the number of the answer shows of a file's plan. */
+void count_plan(met *m, plan p, unsigned number);
 
 /* Counts a file cut after so many whole lines that was closed, as it is then. */
 void count_closed(met *m, part file, unsigned lines);

@@ -6,15 +6,20 @@
 #include "../plain/plain_inner.h"
 #include "sound.h"
 
-enum { MOST_OPEN = 3 };
+enum { MOST_OPEN = 5 };
 
-/* The open records, outermost first. */
+/* The open records, outermost first; in the last six ways the last record opens nothing, and may close what was open, or is
+   a PSE behind an SCP. */
 static const unsigned places[][MOST_OPEN] = {
     {NO_KIND}, {IDREC}, {IDREC, BPFDEC}, {IDREC, BPJDEC},
     {FCI}, {FCI, IDREC}, {FCI, IDREC, BPFFCI}, {FCI, IDREC, BPJFCI},
     {PROC}, {PROC, IDREC}, {PROC, IDREC, BPFPROC}, {PROC, IDREC, BPJPROC},
     {RRA}, {RRA, IDREC}, {RRA, IDREC, BPFRRA},
     {SCP}, {SCP, BPFSCP}, {SCP, BPJSCP},
+    {IDREC, BPFDEC, INFPC}, {IDREC, BPFDEC, INFPA}, {RRA, IDREC, BPFRRA, INFPA},
+    {PSE}, {PSE, OPSE}, {PSE, OPSE, TPSE}, {PSE, OPSE, TPSE, DTPSE},
+    {IDREC, BPFDEC, INFPC, RTIRF}, {IDREC, BPFDEC, INFPA, RTIRF}, {RRA, IDREC, BPFRRA, INFPA, RTIRF},
+    {PSE, OPSE, TPSE, RTPSE}, {PSE, OPSE, TPSE, DTPSE, RDTPSE}, {SCP, PSE},
 };
 
 unsigned count_places(void)
@@ -42,11 +47,17 @@ static void put_kind(file_text *file, plain_edition edition, unsigned kind)
     put_text(file, "\r\n");
 }
 
+/* What the declarant's flags say of a record of this kind. */
+static unsigned flag_of(unsigned kind)
+{
+    return kind == SCP ? HAS_SCP : kind == PSE ? HAS_PSE : 0;
+}
+
 void place_file(plain_edition edition, unsigned declarant, unsigned place, unsigned kind, file_text *file)
 {
     char line[100];
     file->len = 0;
-    make_declarant(declarant == DECPJ, places[place][0] == SCP || kind == SCP, line);
+    make_declarant(declarant == DECPJ, flag_of(kind) | flag_of(places[place][0]) | flag_of(places[place][1]), line);
     put_text(file, line_one(edition));
     put_kind(file, edition, RESPO);
     put_text(file, line);

@@ -7,10 +7,7 @@
 #include "../plain/plain_inner.h"
 #include "chance.h"
 
-/* Records are left out once so many lines are there, so that what closes the file still fits. */
-enum { ENOUGH = MOST_LINES - 16 };
-
-static unsigned some_digits(unsigned count, uint8_t *out)
+unsigned some_digits(unsigned count, uint8_t *out)
 {
     for (unsigned i = 0; i < count; i++)
         out[i] = (uint8_t)('0' + chance(10));
@@ -50,7 +47,7 @@ static unsigned one_of(const char *values, uint8_t *out)
     return len;
 }
 
-static unsigned some_date(uint8_t *out)
+unsigned some_date(uint8_t *out)
 {
     static const unsigned days[] = {31, 28, 31, 30, 31, 30, 31, 31, 30, 31, 30, 31};
     unsigned year = 1900 + chance(200), month = chance(12);
@@ -58,8 +55,8 @@ static unsigned some_date(uint8_t *out)
     unsigned most = days[month] + (month == 1 && leap);
     char text[32];
     snprintf(text, sizeof text, "%04u%02u%02u", year, month + 1, chance(3) ? 1 + chance(most) : most);
-    memcpy(out, text, 8);
-    return 8;
+    memcpy(out, text, DATE_SIZE);
+    return DATE_SIZE;
 }
 
 int holds_identity(const plain_row *row)
@@ -157,128 +154,4 @@ void sound_line(text_line *line, plain_edition edition, unsigned kind)
     if (has_lawyer(kind))
         keep_lawyer(line);
     set_end(line, "\r\n");
-}
-
-static text_line *add(declaration *d, unsigned kind)
-{
-    text_line *line = &d->line[d->count++];
-    sound_line(line, d->edition, kind);
-    return line;
-}
-
-/* 0, 1 or 2, and none once there are enough lines. */
-static unsigned few(const declaration *d)
-{
-    static const unsigned counts[] = {0, 0, 1, 1, 1, 2};
-    return d->count < ENOUGH ? counts[chance(6)] : 0;
-}
-
-/* Puts a key of so many digits that is greater than the one before. */
-static void rising_key(text_line *line, unsigned digits, uint64_t *key)
-{
-    char text[32];
-    *key += 1 + chance(chance(2) ? 3 : 4000);
-    if (digits == CPF_SIZE || digits == CNPJ_SIZE)
-        make_identity(digits, *key, text);
-    else
-        snprintf(text, sizeof text, "%0*llu", (int)digits, (unsigned long long)*key);
-    set_field(line, 2, text, digits);
-}
-
-static void values(declaration *d, unsigned beneficiary)
-{
-    unsigned left = chance(20) ? chance(4) : KINDS, kind = chance(KINDS), step = 1 + chance(KINDS - 1);
-    /* KINDS is prime, so every step comes past every kind once */
-    for (unsigned i = 0; i < KINDS && left > 0 && d->count < ENOUGH; i++) {
-        kind = (kind + step) % KINDS;
-        if (!plain_below(d->edition, d->declarant, beneficiary, kind + 1))
-            continue;
-        add(d, kind + 1);
-        left--;
-    }
-}
-
-static void people(declaration *d, unsigned kind)
-{
-    uint64_t key = chance(2) ? 0 : chance(1000000);
-    for (unsigned left = few(d); left > 0; left--) {
-        rising_key(add(d, kind), plain_field_row(d->edition, kind, 2).size, &key);
-        values(d, kind);
-    }
-}
-
-static void codes(declaration *d, unsigned first, unsigned second)
-{
-    uint64_t key = 0;
-    for (unsigned left = few(d); left > 0; left--) {
-        rising_key(add(d, IDREC), 4, &key);
-        people(d, first);
-        if (second)
-            people(d, second);
-    }
-}
-
-/* Fields 2 and 3 of PROC and RRA, greater than those before: the field 2 greater, or the field 3 longer or greater. */
-static void rising_pair(text_line *line, unsigned *nature, unsigned most, uint8_t *text, unsigned *len)
-{
-    if (*nature == 0 || (*nature < most && chance(2))) {
-        ++*nature;
-        *len = line->kind == RRA && chance(2) ? 0 : some_digits(1 + chance(6), text);
-    } else if (*len < 20 && (*len == 0 || chance(2) || text[*len - 1] == '9')) {
-        text[(*len)++] = (uint8_t)('0' + chance(10));
-    } else {
-        text[*len - 1] = (uint8_t)(text[*len - 1] + 1);
-    }
-    uint8_t first = (uint8_t)('0' + *nature);
-    set_field(line, 2, &first, 1);
-    set_field(line, 3, text, *len);
-}
-
-static void blocks(declaration *d, unsigned kind, unsigned first, unsigned second)
-{
-    uint64_t key = 0;
-    unsigned nature = 0, len = 0;
-    uint8_t text[32];
-    for (unsigned left = few(d); left > 0; left--) {
-        text_line *line = add(d, kind);
-        if (kind == PROC || kind == RRA)
-            rising_pair(line, &nature, kind == PROC ? 3 : 2, text, &len);
-        else
-            rising_key(line, 14, &key);
-        if (kind != SCP) {
-            codes(d, first, second);
-            continue;
-        }
-        people(d, first);
-        people(d, second);
-    }
-}
-
-/* The declarant's flags: SCP is S exactly when there is such a block, and PSE, which is left for later, is N. */
-static void keep_flags(declaration *d, text_line *declarant)
-{
-    int company = d->declarant == DECPJ, has_scp = 0;
-    for (unsigned i = 0; i < d->count; i++)
-        has_scp |= d->line[i].kind == SCP;
-    set_field(declarant, company ? DECPJ_SCP_FLAG : DECPF_SCP_FLAG, has_scp ? "S" : "N", 1);
-    set_field(declarant, company ? DECPJ_PSE_FLAG : DECPF_PSE_FLAG, "N", 1);
-}
-
-void sound_declaration(declaration *d)
-{
-    d->count = 0;
-    d->edition = chance(2) ? PLAIN_2025 : PLAIN_2022;
-    d->declarant = chance(2) ? DECPF : DECPJ;
-    add(d, DIRF);
-    add(d, RESPO);
-    text_line *line = add(d, d->declarant);
-    codes(d, BPFDEC, BPJDEC);
-    if (d->declarant == DECPJ) {
-        blocks(d, FCI, BPFFCI, BPJFCI);
-        blocks(d, PROC, BPFPROC, BPJPROC);
-    }
-    blocks(d, RRA, BPFRRA, 0);
-    blocks(d, SCP, BPFSCP, BPJSCP);
-    keep_flags(d, line);
-    add(d, FIMDIRF);
 }

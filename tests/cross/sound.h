@@ -1,4 +1,4 @@
-/* Whole declarations: lines, fields, places and order as document 01 has them, check digits and the declarant's flags right too. */
+/* Sound lines: fields as documents 01 and 02 have them, check digits right too. */
 #ifndef SOUND_H
 #define SOUND_H
 
@@ -13,8 +13,13 @@ int holds_identity(const plain_row *row);
 /* The CPF or the CNPJ that such a row holds, with right check digits; gives its length. */
 unsigned sound_identity(const plain_row *row, uint8_t *out);
 
-/* So many digits, the first no zero. */
+/* So many digits, and so many of which the first is no zero. */
+unsigned some_digits(unsigned count, uint8_t *out);
 unsigned sound_digits(unsigned count, uint8_t *out);
+
+/* A date, eight digits. */
+enum { DATE_SIZE = 8 };
+unsigned some_date(uint8_t *out);
 
 /* The field of DECPF that says whether the situation is a special one: its conditions hang on it. */
 enum { DECPF_SPECIAL = 8 };
@@ -40,8 +45,5 @@ unsigned sound_name(const lawyer *l);
 
 /* A line of one of the edition's base kinds with sound contents, which keep the conditions of 19. */
 void sound_line(text_line *line, plain_edition edition, unsigned kind);
-
-/* An accepted declaration of some three to seventy lines, of either edition. */
-void sound_declaration(declaration *d);
 
 #endif

@@ -50,10 +50,9 @@ const char *line_one(plain_edition edition)
     return edition == PLAIN_2025 ? "Dirf|2025|2024|N||R6GP3ZA|\r\n" : "Dirf|2022|2021|N||XJFSFHB|\r\n";
 }
 
-size_t make_declarant(int company, int has_scp, char *out)
+size_t make_declarant(int company, unsigned blocks, char *out)
 {
-    /* PSE is left for later, so that no file has it */
-    char scp = has_scp ? 'S' : 'N', pse = 'N', person[CPF_SIZE + 1] = "", firm[CNPJ_SIZE + 1] = "";
+    char scp = blocks & HAS_SCP ? 'S' : 'N', pse = blocks & HAS_PSE ? 'S' : 'N', person[CPF_SIZE + 1] = "", firm[CNPJ_SIZE + 1] = "";
     make_cpf(111444777, person);
     make_cnpj(112223330001, firm);
     if (company)

@@ -1,5 +1,5 @@
 /* print keys COUNT: the CPF and the CNPJ of so many serial numbers, a line each.
-   print declarants: DECPF without and with an SCP, then DECPJ.
+   print declarants: DECPF without a block that has a flag, with an SCP, with a PSE and with both, then DECPJ.
    print files COUNT: files that are meant to be right, each after a line with its bytes: so many of tests/cross, whole and cut and closed,
    and those that the bench measures. */
 #include <stdio.h>
@@ -9,7 +9,7 @@
 #include "../../bench/input.h"
 #include "../cross/chance.h"
 #include "../cross/closers.h"
-#include "../cross/sound.h"
+#include "../cross/whole.h"
 #include "people.h"
 
 /* far enough apart that every digit of a serial number comes up */
@@ -28,10 +28,11 @@ static void print_keys(unsigned long count)
 static void print_declarants(void)
 {
     char line[100];
-    for (int i = 0; i < 4; i++) {
-        make_declarant(i / 2, i % 2, line);
-        fputs(line, stdout);
-    }
+    for (int company = 0; company < 2; company++)
+        for (unsigned blocks = 0; blocks <= (HAS_SCP | HAS_PSE); blocks++) {
+            make_declarant(company, blocks, line);
+            fputs(line, stdout);
+        }
 }
 
 static void print_file(const uint8_t *bytes, size_t len)
@@ -58,7 +59,7 @@ static void print_declaration(uint64_t seed)
 
 static void print_files(unsigned long count)
 {
-    static const char *const shapes[] = {"short", "long", "scp", "older"};
+    static const char *const shapes[] = {"short", "long", "scp", "older", "plan"};
     for (unsigned long i = 0; i < count; i++)
         print_declaration(i);
     for (unsigned i = 0; i < sizeof shapes / sizeof *shapes; i++) {
