@@ -9,7 +9,7 @@
  *   - bytes that nobody writes while the call runs.
  * Nothing else is asked: every content and every length is answered, and no call writes to the bytes. Each function is proved
  * to give, for all bytes and numbers, what the scope document's definitions give (crates/suite/src/lib.rt has each contract).
- * What a C caller passes is checked by nothing. A check takes less than 15 kilobytes of stack (14,704 bytes were
+ * What a C caller passes is checked by nothing. A check takes less than 15 kilobytes of stack (14,672 bytes were
  * measured, docs/BENCH.md).
  *
  * Each call answers one number of the answer. For several numbers of one answer make several calls with the same arguments.
