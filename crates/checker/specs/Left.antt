@@ -23,7 +23,7 @@ pub record Left (file : Text) (before after : List ℕ) (answer : Answer) : Type
   -- no number past them is touched, and the table is as long as it was
   pub untouched : (i : ℕ) → numbersAnEntry * answer .entries ≤ i → getD after i 0 ≡ getD before i 0
   pub same-length : length after ≡ length before
-  -- of each line it is said whose it is: every amount is the amount of the person above it, with nothing but amounts between
+  -- of each line it is said whose it is: every amount is the amount of the person above it, with nothing of another person between
   pub whose : Owned entries
   -- the n-th entry points at the n-th line of the file
   pub pointed : Pointed file entries
