@@ -1,12 +1,12 @@
 -- What the tables of parents and of groups say of every kind, each by one computed test over them.
-use Prim.Native.Nat.{ℕ, _<_}
+use Prim.Native.Nat.{ℕ, _≤_, _<_}
 use mathlib.Core.Path.{_≡_, refl, sym, ap, _∙_, subst}
 use mathlib.Core.Bool.{Bool, true, _&&_, _||_, not, or-true, true≢false}
 use mathlib.Core.Logic.{_⊎_, inl, inr, ⊎-elim}
 use mathlib.Core.List.{List, _∷_}
 use native.Mathlib.Omega.{arith}
-use lib.Dec.{eqb, ltb}
-use borrow.Author.Tests.{eqb-true, ltb-true, not-true}
+use lib.Dec.{eqb, ltb, leb}
+use borrow.Author.Tests.{eqb-true, ltb-true, leb-true, not-true}
 use Rattle.dirf.specs.Bytes.{if_then_else_, every, isIn, bytes-opens}
 use Rattle.dirf.specs.Kinds.{IDREC, PSE, declarants, blocks, beneficiaries, pensions, values, opensNothing, kinds-opens}
 use Rattle.dirf.specs.Edition.{edition-opens}
@@ -53,16 +53,16 @@ module _ (h k : ℕ) where
       (every-in (λ k. every (λ j. isIn j (groupOf h)) (groupOf k)) m
       (in-rows (λ h ks. every (λ k. every (λ j. isIn j ks) (groupOf k)) ks) (λ h. refl) groups refl h)))
 
-  -- what opens nothing is not the declarant's
-  pub shut-below : h ∈ parentsOf k → opensNothing k ≡ true → 0 < level h
+  -- what opens nothing stands below a beneficiary, or as deep
+  pub shut-below : h ∈ parentsOf k → opensNothing k ≡ true → 3 ≤ level h
   unfolding bytes-opens kinds-opens edition-opens belongs-opens
   shut-below m shut =
-      ltb-true 0 (level h) (rw shut at (of-parents (λ k h. not (opensNothing k) || ltb 0 (level h)) refl h k m))
+      leb-true 3 (level h) (rw shut at (of-parents (λ k h. not (opensNothing k) || leb 3 (level h)) refl h k m))
 
-  -- nor is an INFPC or INFPA
-  pub pension-below : h ∈ parentsOf k → k ∈ pensions → 0 < level h
+  -- and so does an INFPC or INFPA
+  pub pension-below : h ∈ parentsOf k → k ∈ pensions → 3 ≤ level h
   unfolding bytes-opens kinds-opens edition-opens belongs-opens
-  pension-below m p = ltb-true 0 (level h) (in-rows-of parentsOf (λ h. ltb 0 (level h)) refl p m)
+  pension-below m p = leb-true 3 (level h) (in-rows-of parentsOf (λ h. leb 3 (level h)) refl p m)
 
   -- no two parents of a kind stand in one group, but those of an IDREC
   pub parents-apart : (x : ℕ) → h ∈ parentsOf k → x ∈ parentsOf k → x ∈ groupOf h → k ≡ IDREC
@@ -142,6 +142,10 @@ idrec-parent h k q m =
     ⊎-elim (λ d. inl (isIn-says h declarants .0 d)) (λ b. inr (isIn-says h blocks .0 b))
     (or-cases (isIn h declarants) (isIn h blocks)
     (every-in (λ h. isIn h declarants || isIn h blocks) (subst (λ k. h ∈ parentsOf k) q m) refl))
+
+pub idrec-high : (h k : ℕ) → k ≡ IDREC → h ∈ parentsOf k → level h < 3
+unfolding bytes-opens kinds-opens edition-opens belongs-opens
+idrec-high h k q m = ltb-true (level h) 3 (every-in (λ h. ltb (level h) 3) (subst (λ k. h ∈ parentsOf k) q m) refl)
 
 -- where one of its parents stands in the group of another, that is the declarant and this a block
 pub idrec-apart : (h x k : ℕ) → k ≡ IDREC → h ∈ parentsOf k → x ∈ parentsOf k → x ∈ groupOf h → (h ∈ declarants) × (x ∈ blocks)

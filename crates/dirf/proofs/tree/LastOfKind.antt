@@ -21,7 +21,7 @@ use Rattle.dirf.specs.Theorems.Sound.{Sound}
 use Rattle.dirf.specs.Theorems.Whose.{kindAt, parentAt}
 use Rattle.dirf.proofs.tests.Bools.{by-answer}
 use Rattle.dirf.proofs.tests.Says.{below-or}
-use Rattle.dirf.proofs.tree.Belongs.{parents-apart, idrec-apart, later-block}
+use Rattle.dirf.proofs.tree.Belongs.{parents-apart, idrec-high, idrec-apart, later-block}
 use Rattle.dirf.proofs.tree.Parents.{has-parent}
 use Rattle.dirf.proofs.tree.History.{History, table-length, entry-last, entry-earlier}
 use Rattle.dirf.proofs.tree.OpenRecords.{Known, Last, OpenRecords, innermost, last-least, Holder, holder-parent}
@@ -91,7 +91,7 @@ module _ (e : Edition) (sound : Sound e) where
   under-one : {before : List Rec} → History e before → (k : ℕ) (c : Option Open) (o : Open) (outer : List Open) → Known before o outer
       → Last before c (o ∷ outer) → inOrder c k ≡ true → o .kind ∈ parentsOf k
       → (m : ℕ) → o .number < m → m ≤ length before → kindAt (tableOf before) m ≡ k → parentAt (tableOf before) m ≡ o .number
-  unfolding numberOfFirst
+  unfolding numberOfFirst kindOfFirst
   under-one {before} hist k c o outer known last ordered to m over few kind =
       by-answer (eqb q (o .number)) (eqb-true q (o .number))
       (λ x.
@@ -107,8 +107,8 @@ module _ (e : Edition) (sound : Sound e) where
       third e sound hist (o .number) (known .line .0, omega (arith, size, known .line .1))
       (subst (λ j. j ∈ declarants) (sym (known .kind)) (a .0)) in
       let l : (1 ≤ q) × (q ≤ length t) = (omega arith, omega (arith, size, s .above .1)) in
-      let below = last-least before c (o ∷ outer) k (λ _. ordered) last three q (omega (arith, s .above .1))
-      (block-third e sound hist q l (a .1) .1) in
+      let below = last-least before c (o ∷ outer) k (λ _. ordered) last (known .line .0, idrec-high (o .kind) k idrec to)
+      q (omega (arith, s .above .1)) (block-third e sound hist q l (a .1) .1 ∙ sym three) in
       absurd (omega (arith, below, later-block (a .1), idrec)))
     where
       t : List Entry

@@ -1,5 +1,5 @@
 -- What is known of open records, innermost first: lines and levels fall outwards, every line read since one of them stands in its group,
--- and no block before the open one is of a later kind. One more record leaves it so, and so does a place.
+-- and above the beneficiaries no record before the open one is of a later kind. One more record leaves it so, and so does a place.
 use Prim.Native.Nat.{ℕ, suc, _≤_, _<_}
 use mathlib.Core.Path.{_≡_, refl, ap, _∙_}
 use mathlib.Core.Bool.{true, not}
@@ -25,22 +25,26 @@ use Rattle.dirf.proofs.tests.Says.{isIn-says}
 use Rattle.dirf.proofs.tree.Belongs.{parent-deeper}
 use Rattle.dirf.proofs.tree.History.{entry-last, entry-earlier, line-cases}
 
--- so it is with the kind of each record directly below the declarant, which is line 3
-abbrev pub EachBlock : List Rec → (ℕ → Type 0) → Type 0
-EachBlock before P = (m : ℕ) → m ≤ length before → parentAt (tableOf before) m ≡ 3 → P (kindAt (tableOf before) m)
+-- so it is with the kind of each record directly below line p
+abbrev pub Each : List Rec → ℕ → (ℕ → Type 0) → Type 0
+Each before p P = (m : ℕ) → m ≤ length before → parentAt (tableOf before) m ≡ p → P (kindAt (tableOf before) m)
+
+-- the innermost of these stands above the beneficiaries: below it every record opens, and their order is that of kinds
+abbrev pub High : List Open → Type 0
+High os = (0 < numberOfFirst os) × (level (kindOfFirst os) < 3)
 
 -- what is known of an open record, given those further out
 pub record Known (before : List Rec) (o : Open) (outer : List Open) : Type 0 where
   pub line : (0 < o .number) × (o .number ≤ length before)
   pub kind : kindAt (tableOf before) (o .number) ≡ o .kind
   pub parent : parentAt (tableOf before) (o .number) ≡ numberOfFirst outer
-  pub no-pension : numberOfFirst outer ≡ 3 → o .kind ∈ pensions → ⊥
+  pub no-pension : High outer → o .kind ∈ pensions → ⊥
   pub since : (m : ℕ) → o .number < m → m ≤ length before → o .number ≤ parentAt (tableOf before) m
-  pub latest : numberOfFirst outer ≡ 3 → EachBlock before (λ k. k ≤ o .kind)
+  pub latest : High outer → Each before (numberOfFirst outer) (λ k. k ≤ o .kind)
 
--- what is known of the record that is open below the first of these; where none is, nothing has opened yet below the declarant
+-- what is known of the record that is open below the first of these; where none is, nothing stands there yet
 abbrev pub Last : List Rec → Option Open → List Open → Type 0
-Last before none os = numberOfFirst os ≡ 3 → EachBlock before (λ k. ⊥)
+Last before none os = High os → Each before (numberOfFirst os) (λ k. ⊥)
 Last before (some o) os = Known before o os
 
 -- open records, innermost first, all of them above line n and level l
@@ -79,22 +83,22 @@ module _ {before : List Rec} where
   shallower w (none-open z) = none-open z
   shallower w (innermost a b k h) = innermost a (le-trans b w) k h
 
--- a kind in order behind the last block is no earlier than any block
+-- a kind in order behind the last one that stands there is no earlier than any
 pub last-least : (before : List Rec) (c : Option Open) (os : List Open) (k : ℕ) → (0 < numberOfFirst os → inOrder c k ≡ true)
-    → Last before c os → numberOfFirst os ≡ 3 → EachBlock before (λ j. j ≤ k)
+    → Last before c os → High os → Each before (numberOfFirst os) (λ j. j ≤ k)
 unfolding inOrder mayFollow
-last-least before none os k ordered none-yet three m h e = absurd (none-yet three m h e)
-last-least before (some x) os k ordered known three m h e =
-    ⊎-elim (λ p. absurd (known .no-pension three (isIn-says (x .kind) pensions .0 p)))
-    (λ q. le-trans (known .latest three m h e) (leb-true (x .kind) k (and-right (not (eqb (x .kind) PSE)) _ q)))
-    (or-cases (isIn (x .kind) pensions) _ (ordered (omega arith)))
+last-least before none os k ordered none-yet high m h e = absurd (none-yet high m h e)
+last-least before (some x) os k ordered known high m h e =
+    ⊎-elim (λ p. absurd (known .no-pension high (isIn-says (x .kind) pensions .0 p)))
+    (λ q. le-trans (known .latest high m h e) (leb-true (x .kind) k (and-right (not (eqb (x .kind) PSE)) _ q)))
+    (or-cases (isIn (x .kind) pensions) _ (ordered (high .0)))
 
 -- what one more record leaves open; and the record itself
 module _ (r : Rec) (before : List Rec) where
-  pub each-next : (P : ℕ → Type 0) → (r .parent ≡ 3 → P (r .kind)) → EachBlock before P → EachBlock (r ∷ before) P
+  pub each-next : (p : ℕ) (P : ℕ → Type 0) → (r .parent ≡ p → P (r .kind)) → Each before p P → Each (r ∷ before) p P
   unfolding entryOf
-  each-next P this earlier m =
-      line-cases (λ m. parentAt (tableOf (r ∷ before)) m ≡ 3 → P (kindAt (tableOf (r ∷ before)) m)) (length before) m
+  each-next p P this earlier m =
+      line-cases (λ m. parentAt (tableOf (r ∷ before)) m ≡ p → P (kindAt (tableOf (r ∷ before)) m)) (length before) m
       (λ q. rw (entry-earlier r before m q, kindAt, parentAt) (earlier m q))
       (rw (entry-last r before, kindAt, parentAt) this)
 
@@ -111,7 +115,7 @@ module _ (r : Rec) (before : List Rec) where
             line-cases (λ m. o .number ≤ parentAt (tableOf (r ∷ before)) m) (length before) m
             (λ q. rw (entry-earlier r before m q, parentAt) (k .since m s q))
             (rw (entry-last r before, parentAt) inside);
-        latest = λ three. each-next (λ j. j ≤ o .kind) (λ e. absurd (omega arith)) (k .latest three);
+        latest = λ high. each-next (numberOfFirst outer) (λ j. j ≤ o .kind) (λ e. absurd (omega arith)) (k .latest high);
       }
 
   pub open-next : {n l : ℕ} {os : List Open} → numberOfFirst os ≤ r .parent → OpenRecords before n l os → OpenRecords (r ∷ before) n l os
@@ -121,8 +125,8 @@ module _ (r : Rec) (before : List Rec) where
       let f = first-number h in
       innermost a b (known-next inside f k) (open-next (omega arith) h)
 
-  pub known-last : {up : List Open} → r .parent ≡ numberOfFirst up → (numberOfFirst up ≡ 3 → r .kind ∈ pensions → ⊥)
-      → (numberOfFirst up ≡ 3 → EachBlock before (λ j. j ≤ r .kind))
+  pub known-last : {up : List Open} → r .parent ≡ numberOfFirst up → (High up → r .kind ∈ pensions → ⊥)
+      → (High up → Each before (numberOfFirst up) (λ j. j ≤ r .kind))
       → Known (r ∷ before) (record { number = suc (length before); kind = r .kind }) up
   unfolding entryOf
   known-last {up} parent no-pension least =
@@ -132,7 +136,7 @@ module _ (r : Rec) (before : List Rec) where
         parent = ap (λ x. x .parent) (entry-last r before) ∙ parent;
         no-pension = no-pension;
         since = λ m a b. absurd (omega arith);
-        latest = λ three. each-next (λ j. j ≤ r .kind) (λ e. omega arith) (least three);
+        latest = λ high. each-next (numberOfFirst up) (λ j. j ≤ r .kind) (λ e. omega arith) (least high);
       }
 
 module _ (e : Edition) (d k : ℕ) where

@@ -1,6 +1,6 @@
 -- The open records of every history, and the place of every record among them.
 use Prim.Native.Nat.{ℕ, suc, _-_, _≤_, _<_}
-use mathlib.Core.Path.{_≡_, refl, sym, ap, _∙_}
+use mathlib.Core.Path.{_≡_, refl, ap, _∙_}
 use mathlib.Core.List.{List, [], _∷_}
 use mathlib.Core.Option.{none}
 use native.Mathlib.Nat.{le-refl}
@@ -8,25 +8,24 @@ use native.Mathlib.Omega.{arith}
 use lib.ListN.{length}
 use Rattle.dirf.specs.Kinds.{opensNothing}
 use Rattle.dirf.specs.Edition.{Edition}
-use Rattle.dirf.specs.Tree.{Rec, Open, from, opened, opening, declarant, kindOfFirst, numberOfFirst, place, parentOf, mayStand}
+use Rattle.dirf.specs.Tree.{Rec, Open, from, opened, declarant, kindOfFirst, numberOfFirst, place, parentOf}
 use Rattle.dirf.specs.Check.{entryOf, tableOf}
 use Rattle.dirf.specs.Theorems.Plain.{_∈_}
 use Rattle.dirf.specs.Theorems.Belongs.{parentsOf, deepest, level}
 use Rattle.dirf.specs.Theorems.Sound.{Sound}
-use Rattle.dirf.specs.Theorems.Whose.{kindAt, parentAt}
+use Rattle.dirf.specs.Theorems.Whose.{parentAt}
 use Rattle.dirf.proofs.tests.Bools.{if-cases}
-use Rattle.dirf.proofs.tests.Says.{below-or}
 use Rattle.dirf.proofs.tree.Belongs.{shut-below, pension-below}
 use Rattle.dirf.proofs.tree.Levels.{level-most, opens-level}
-use Rattle.dirf.proofs.tree.Parents.{opening-level, has-parent}
+use Rattle.dirf.proofs.tree.Parents.{has-parent}
 use Rattle.dirf.proofs.tree.History.{History, start, next, entry-last, entry-earlier, line-cases}
-use Rattle.dirf.proofs.tree.OpenRecords.{OpenRecords, none-open, innermost, EachBlock, first-number, first-kind, wider, shallower}
+use Rattle.dirf.proofs.tree.OpenRecords.{OpenRecords, none-open, innermost, Each, High, first-number, wider, shallower}
 use Rattle.dirf.proofs.tree.OpenRecords.{last-least, open-next, known-last, Holder, Placed, placed-in, holders-parent}
 
--- the open records; where only the declarant is open nothing stands below it; and every line's parent stands above it
+-- the open records; above the beneficiaries nothing stands below the innermost; and every line's parent stands above it
 pub record OpenNow (before : List Rec) (os : List Open) : Type 0 where
   pub records : OpenRecords before (suc (length before)) deepest os
-  pub none-below : numberOfFirst os ≡ 3 → EachBlock before (λ k. ⊥)
+  pub none-below : High os → Each before (numberOfFirst os) (λ k. ⊥)
   pub parents : (m : ℕ) → m ≤ length before → parentAt (tableOf before) m ≤ m - 1
 
 parents-next : (r : Rec) (before : List Rec) → r .parent ≤ length before
@@ -49,32 +48,18 @@ some-first [] h = absurd (omega arith)
 some-first (o ∷ outer) h = omega arith
 
 module _ (e : Edition) (sound : Sound e) where
-  -- line 3 is one of the opening lines
-  third-level : {before : List Rec} → History e before → 3 ≤ length before → level (kindAt (tableOf before) 3) ≡ 0
-  unfolding entryOf mayStand opening
-  third-level start few = absurd (omega arith)
-  third-level (next {r = r} {before = before} stands parent h) few =
-      below-or 3 (length before)
-      (λ less.
-      let two : length before ≡ 2 = omega arith in
-      ap (λ n. level (kindAt (tableOf (r ∷ before)) (suc n))) (sym two) ∙ ap (λ x. level (x .kind)) (entry-last r before)
-      ∙ opening-level (r .kind) 2 (rw two at stands))
-      (λ more. ap (λ x. level (x .kind)) (entry-earlier r before 3 more) ∙ third-level h more)
-
-  -- a record whose parents all stand deeper than the declarant does not stand below line 3
-  no-block : {before : List Rec} → History e before → (k : ℕ) (up : List Open) → OpenRecords before (suc (length before)) (level k) up
-      → Holder e (declarant before) k up → (kindOfFirst up ∈ parentsOf k → 0 < level (kindOfFirst up)) → numberOfFirst up ≡ 3 → ⊥
-  no-block {before} h k up known holds deeper three =
-      let high = deeper (holders-parent e (declarant before) k sound up holds (some-first up (omega arith))) in
-      let kind : kindAt (tableOf before) 3 ≡ kindOfFirst up = ap (kindAt (tableOf before)) (sym three) ∙ first-kind known in
-      omega (arith, high, third-level h (omega (arith, first-number known)), ap level kind)
+  -- a record whose parents all stand no higher than a beneficiary stands below none of those that do
+  no-high : {before : List Rec} {n : ℕ} (k : ℕ) (up : List Open) → OpenRecords before n (level k) up → Holder e (declarant before) k up
+      → (kindOfFirst up ∈ parentsOf k → 3 ≤ level (kindOfFirst up)) → High up → ⊥
+  no-high {before} k up known holds low high =
+      omega (arith, low (holders-parent e (declarant before) k sound up holds (some-first up (high .0))), high .1)
 
   pub open-now : {before : List Rec} → History e before → OpenNow before (opened before)
   unfolding opened place parentOf tableOf numberOfFirst
   open-now start =
       record {
         records = none-open {n = 1} (omega arith);
-        none-below = λ three. absurd (omega arith);
+        none-below = λ high. absurd (omega (arith, high .0));
         parents = λ m h. let z : m ≡ 0 = omega arith in rw z (omega arith);
       }
   open-now (next {r = r} {before = before} stands parent h) =
@@ -86,21 +71,21 @@ module _ (e : Edition) (sound : Sound e) where
       let parents = parents-next r before (omega arith) (now .parents) in
       let least = last-least before (place e before k .last) (place e before k .up) k
       (λ z. has-parent e before k (deep (q .known) z) stands .2) (q .last) in
-      let under = no-block h k (place e before k .up) (q .known) (q .holder) in
+      let under = no-high k (place e before k .up) (q .known) (q .holder) in
       rw outer
       (if-cases (OpenNow (r ∷ before)) (opensNothing k)
       (λ shut.
       record {
         records = shallower (level-most k) (wider (omega arith) (open-next r before (omega arith) (q .known)));
-        none-below = λ three. absurd (under (λ p. shut-below _ k p shut) three);
+        none-below = λ high. absurd (under (λ p. shut-below _ k p shut) high);
         parents = parents;
       })
       (λ opens.
       record {
         records = innermost (le-refl (suc (suc (length before)))) (opens-level k opens)
-            (known-last r before parent (λ three p. under (λ m. pension-below _ k m p) three) least)
+            (known-last r before parent (λ high p. under (λ m. pension-below _ k m p) high) least)
             (open-next r before (omega arith) (q .known));
-        none-below = λ three m s at. absurd (omega (arith, parents m s, at));
+        none-below = λ high m s at. absurd (omega (arith, parents m s, at));
         parents = parents;
       }))
 

@@ -9,7 +9,7 @@ use lib.ListN.{length}
 use borrow.Author.Tests.{eqb-true, eqb-false}
 use Rattle.dirf.specs.Kinds.{IDREC, PSE, declarants, blocks, pensions, values}
 use Rattle.dirf.specs.Edition.{Edition}
-use Rattle.dirf.specs.Tree.{Rec, opening, numberOfFirst, mayStand}
+use Rattle.dirf.specs.Tree.{Rec, opening, kindOfFirst, numberOfFirst, mayStand}
 use Rattle.dirf.specs.Check.{Entry, entryOf, tableOf}
 use Rattle.dirf.specs.Theorems.Plain.{_∈_}
 use Rattle.dirf.specs.Theorems.Belongs.{groupOf, ofAPerson, persons, ofAPlan}
@@ -17,11 +17,11 @@ use Rattle.dirf.specs.Theorems.Sound.{Sound}
 use Rattle.dirf.specs.Theorems.Whose.{kindAt, parentAt, IsLine, PersonOf, Owned, Whose}
 use Rattle.dirf.proofs.tests.Bools.{by-answer}
 use Rattle.dirf.proofs.tests.Says.{isIn-says, below-or}
-use Rattle.dirf.proofs.tree.Belongs.{idrec-deep, idrec-parent, idrec-no-plan, idrec-group, later-block, pse-block, plan-parent}
+use Rattle.dirf.proofs.tree.Belongs.{idrec-deep, idrec-high, idrec-parent, idrec-no-plan, idrec-group, later-block, pse-block, plan-parent}
 use Rattle.dirf.proofs.tree.Belongs.{value-deep, value-parent, pension-deep, pension-parent, pension-listed, person-group}
 use Rattle.dirf.proofs.tree.Belongs.{pension-group}
 use Rattle.dirf.proofs.tree.History.{History, answer-table}
-use Rattle.dirf.proofs.tree.OpenRecords.{last-least}
+use Rattle.dirf.proofs.tree.OpenRecords.{last-least, holder-parent}
 use Rattle.dirf.proofs.tree.Held.{Below, held, line, below, whose-line, has-holder, above-is-line, in-group, third, block-third}
 
 module _ (e : Edition) (sound : Sound e) where
@@ -38,7 +38,7 @@ module _ (e : Edition) (sound : Sound e) where
 
     -- no block stands between an IDREC and what it belongs to: below a block none does, and below the declarant their order forbids it
     no-block : (n : ℕ) → IsLine t n → kindAt t n ≡ IDREC → (m : ℕ) → parentAt t n < m → m < n → kindAt t m ∈ blocks → ⊥
-    unfolding entryOf numberOfFirst
+    unfolding entryOf numberOfFirst kindOfFirst
     no-block n l i m over under block =
         let y = held e sound h n l (idrec-deep (kindAt t n) i) in
         let x = y .read in
@@ -53,7 +53,8 @@ module _ (e : Edition) (sound : Sound e) where
         (idrec-parent (kindAt t p) (kindAt t n) i (s .to)) in
         let small : m ≤ length (x .before) = omega (arith, x .number) in
         let least = last-least (x .before) (y .last) (y .o ∷ y .outer) (x .this .kind) (λ _. y .ordered) (y .known-last)
-        (omega (arith, y .parent, holder)) m small (ap (λ z. z .parent) (sym (x .earlier m small)) ∙ three) in
+        (y .known .line .0, idrec-high (y .o .kind) (x .this .kind) (ap (λ z. z .kind) (sym (x .entry)) ∙ i) (holder-parent e _ _ sound _ _ (y .holds)))
+        m small (ap (λ z. z .parent) (sym (x .earlier m small)) ∙ omega (arith, three, holder, y .parent)) in
         omega (arith, least, ap (λ z. z .kind) (x .earlier m small), later-block block, ap (λ z. z .kind) (x .entry), i)
 
     module _ (n : ℕ) (l : IsLine t n) where
