@@ -84,13 +84,22 @@ static fault line_fault(const place *p, line *l)
     return (fault){0, 0};
 }
 
+static uint32_t *entry_of(uint32_t *table, uint32_t number)
+{
+    return table + TABLE_NUMBERS * (size_t)(number - 1);
+}
+
 static void write_entry(uint32_t *table, const line *l, size_t start)
 {
-    uint32_t *entry = table + 4 * (size_t)(l->number - 1);
-    entry[0] = l->kind;
-    entry[1] = (uint32_t)start;
-    entry[2] = (uint32_t)l->bytes.len;
-    entry[3] = l->parent;
+    uint32_t *entry = entry_of(table, l->number);
+    entry[ENTRY_KIND] = l->kind;
+    entry[ENTRY_START] = (uint32_t)start;
+    entry[ENTRY_LENGTH] = (uint32_t)l->bytes.len;
+    entry[ENTRY_PARENT] = l->parent;
+    entry[ENTRY_LAST] = l->number;
+    /* Every record above the line has it as its last line now. */
+    for (uint32_t above = l->parent; above != 0; above = entry_of(table, above)[ENTRY_PARENT])
+        entry_of(table, above)[ENTRY_LAST] = l->number;
 }
 
 static plain_answer refused(uint32_t number, uint32_t at_line, uint32_t field)
@@ -136,7 +145,7 @@ static plain_answer check(const uint8_t *file, size_t file_len,
 plain_answer plain_check(const uint8_t *file, size_t file_len,
                          uint32_t *table, size_t table_len)
 {
-    return check(file, file_len, table, table_len / 4);
+    return check(file, file_len, table, table_len / TABLE_NUMBERS);
 }
 
 plain_answer plain_check_room(const uint8_t *file, size_t file_len, size_t room)

@@ -5,7 +5,9 @@
    change A1 has it: 26, after 18 of the same field; and they ask of PROC and RRA
    that the lawyer's number and name follow the lawyer's kind, as change A2 has
    it: 19, at field 5, then 6. Both take in INFPC, INFPA, the PSE block and what
-   stands below them, as change A3 has it.
+   stands below them, as change A3 has it. The table tells of each record where
+   its group ends, and the search for one CPF under one IDREC goes by that, as
+   change A6 has it: 27 where the table or the line asked for is no help.
    Every function takes every input; a pointer may be NULL where its length or
    room is 0. An output never overlaps an input. An edition is one of the two. */
 #ifndef PLAIN_H
@@ -27,15 +29,34 @@ plain_edition plain_edition_of(const uint8_t *file, size_t file_len);
 /* number 0: accepted, line is the last line. Else the first breach. */
 typedef struct { uint32_t number, line, field; size_t entries; } plain_answer;
 
-/* The check, by the file's own edition. The table has table_len numbers, four
-   an entry: kind, start, length without the line end, parent's line number.
-   Room is table_len / 4. Numbers that are no part of an entry of the answer
+/* The check, by the file's own edition. The table has table_len numbers, five
+   an entry: kind, start, length without the line end, parent's line number,
+   last line of the record's group. The group is the record and all lines below
+   it, as far as they were taken; of a record with nothing below it, itself.
+   Room is table_len / 5. Numbers that are no part of an entry of the answer
    stay untouched. */
 plain_answer plain_check(const uint8_t *file, size_t file_len,
                          uint32_t *table, size_t table_len);
 
 /* The same with a room in entries and no table. */
 plain_answer plain_check_room(const uint8_t *file, size_t file_len, size_t room);
+
+/* number 0, the line of the CPF or 0, and the beneficiary entries looked at, the
+   stopping one included; or 27 with 0 and 0. */
+typedef struct { uint32_t number, line, count; } plain_found;
+
+/* The search by the table: the bytes of a key below the IDREC of a line. It goes
+   from one beneficiary to the next by the last lines and stops at the first
+   company, at the first other whose field 2 is not smaller than the key, or
+   behind the IDREC's last line. Any file, table, line and key are taken. */
+plain_found plain_search(const uint8_t *file, size_t file_len,
+                         const uint32_t *table, size_t table_len,
+                         uint32_t line, const uint8_t *key, size_t key_len);
+
+/* The same question by reading every line of an accepted file, without a table;
+   27 where that line is no IDREC. Of another file it only ends. */
+plain_found plain_search_reading(const uint8_t *file, size_t file_len,
+                                 uint32_t line, const uint8_t *key, size_t key_len);
 
 /* Field k of a line, from 1. Gives 1, or 0 with the line's end and length 0. */
 int plain_field(const uint8_t *line, size_t line_len, size_t k,

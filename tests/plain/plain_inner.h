@@ -32,6 +32,7 @@ enum rule { NO_RULE, AMOUNT, MONTHS, DDD, TELEPHONE, CPF, CNPJ, CPF_OR_CNPJ };
 enum { BAR = 124, CR = 13, LF = 10 };
 enum { MOST_FIELDS = 15, MARK_FIELD = 6 };
 enum { EDITIONS = 2 };
+enum { ENTRY_KIND, ENTRY_START, ENTRY_LENGTH, ENTRY_PARENT, ENTRY_LAST, TABLE_NUMBERS };     /* of a table's entry */
 enum { AMOUNT_DIGITS = 13, HEALTH_DIGITS = 9, MONTHS_DIGITS = 4, CPF_DIGITS = 11, CNPJ_DIGITS = 14 };
 
 /* One row of the field tables. */
@@ -68,6 +69,9 @@ uint32_t plain_kind_of(plain_edition edition, part identifier);
 
 /* The row of field f, which has to be one of the kind's fields. */
 row plain_row_of(plain_edition edition, uint32_t kind, unsigned f);
+
+/* Byte by byte, a proper beginning first: below, at or above 0 as a is less than, equal to or greater than b. */
+int plain_compare(part a, part b);
 
 /* 13 to 18 and 26 over all fields of a base kind, then 19. */
 fault plain_fields_fault(plain_edition edition, uint32_t kind, const part *fields);

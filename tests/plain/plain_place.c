@@ -117,8 +117,7 @@ int plain_repeated(const place *p, const line *l)
     return ((below_group(p, l) ? p->group_seen : p->seen) & bit(l->kind)) != 0;
 }
 
-/* Byte by byte, a proper beginning first. */
-static int compare(part a, part b)
+int plain_compare(part a, part b)
 {
     size_t len = a.len < b.len ? a.len : b.len;
     int order = len ? memcmp(a.bytes, b.bytes, len) : 0;
@@ -127,8 +126,8 @@ static int compare(part a, part b)
 
 static int greater(key a, key b)
 {
-    int order = compare(a.first, b.first);
-    return order ? order > 0 : compare(a.second, b.second) > 0;
+    int order = plain_compare(a.first, b.first);
+    return order ? order > 0 : plain_compare(a.second, b.second) > 0;
 }
 
 static key key_of(const line *l)

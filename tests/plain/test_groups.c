@@ -85,7 +85,7 @@ static unsigned after_at(const char *may, const char *name)
 static void test_context(unsigned d, const char *path, const char *may, const char *name)
 {
     char line[512];
-    uint32_t lines, table[4 * 20] = {0};
+    uint32_t lines, table[5 * 20] = {0};
     unsigned parent = after_at(may, name), kind = named(name);
     text t = chain(d, path, name, &lines);
     size_t len = t.len;
@@ -93,9 +93,9 @@ static void test_context(unsigned d, const char *path, const char *may, const ch
     add_line(&t, line);
     expect(path, &t, parent == 0 ? 12 : parent == 21 ? 21 : 1, lines + (parent == 0 || parent == 21 ? 1 : 2), parent == 0 || parent == 21);
     if (parent != 0 && parent != 21) {
-        plain_check(t.bytes, t.len, table, 4 * (lines + 1));
-        is_true(table[4 * lines] == kind && table[4 * lines + 3] == parent, name, table[4 * lines], table[4 * lines + 3]);
-        is_true(table[4 * lines + 1] == len && table[4 * lines + 2] == t.len - len - 2, "place in the file", lines, 0);
+        plain_check(t.bytes, t.len, table, 5 * (lines + 1));
+        is_true(table[5 * lines] == kind && table[5 * lines + 3] == parent, name, table[5 * lines], table[5 * lines + 3]);
+        is_true(table[5 * lines + 1] == len && table[5 * lines + 2] == t.len - len - 2, "place in the file", lines, 0);
         add_line(&t, "FIMDirf|");
         expect("closed", &t, 0, lines + 2, 0);
     }
@@ -137,7 +137,7 @@ static void test_places(void)
 static void expect_parents(unsigned d, const char *lines, const char *parents)
 {
     text t = head(d, people_blocks(lines, '~'));
-    uint32_t table[4 * 40] = {0}, n = 3;
+    uint32_t table[5 * 40] = {0}, n = 3;
     unsigned parent;
     int used;
     for (const char *s = lines; *s; s += strcspn(s, "~") + (s[strcspn(s, "~")] != 0)) {
@@ -146,9 +146,9 @@ static void expect_parents(unsigned d, const char *lines, const char *parents)
         add_line(&t, one);
     }
     expect(lines, &t, 0, (uint32_t)count_lf(t.bytes, t.len), 0);
-    plain_check(t.bytes, t.len, table, 160);
+    plain_check(t.bytes, t.len, table, 200);
     for (const char *s = parents; sscanf(s, "%u%n", &parent, &used) == 1; s += used, n++)
-        is_true(table[4 * n + 3] == parent, lines, n + 1, table[4 * n + 3]);
+        is_true(table[5 * n + 3] == parent, lines, n + 1, table[5 * n + 3]);
     is_true(n == count_lf(t.bytes, t.len), "all parents told", n, 0);
     drop(&t);
 }

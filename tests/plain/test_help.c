@@ -134,6 +134,18 @@ uint8_t *edge_copy(const void *bytes, size_t len)
     return area + HALF - len;
 }
 
+/* Pages that are not written cost nothing, so this may be more than there is memory. */
+uint8_t *far_area(size_t len)
+{
+    void *area = mmap(NULL, len, PROT_READ | PROT_WRITE, MAP_PRIVATE | MAP_ANONYMOUS | MAP_NORESERVE, -1, 0);
+    return area == MAP_FAILED ? NULL : area;
+}
+
+void far_drop(uint8_t *area, size_t len)
+{
+    munmap(area, len);
+}
+
 int equal(plain_answer a, plain_answer b)
 {
     return a.number == b.number && a.line == b.line && a.field == b.field
@@ -152,7 +164,7 @@ size_t count_lf(const uint8_t *bytes, size_t len)
 plain_answer run_plain(const uint8_t *bytes, size_t len, size_t room,
                        uint32_t *entries)
 {
-    size_t numbers = 4 * room + below_n(4);
+    size_t numbers = 5 * room + below_n(5);
     uint8_t *file = exact_copy(bytes, len);
     uint32_t *table = malloc(numbers * 4 + 1);
     for (size_t i = 0; i < numbers; i++)
@@ -163,11 +175,11 @@ plain_answer run_plain(const uint8_t *bytes, size_t len, size_t room,
             "entries", a.number, a.entries);
     is_true(a.entries <= room, "entries within room", a.entries, room);
     int kept = len == 0 || memcmp(file, bytes, len) == 0;
-    for (size_t i = 4 * a.entries; i < numbers; i++)
+    for (size_t i = 5 * a.entries; i < numbers; i++)
         kept = kept && table[i] == UNTOUCHED;
     is_true(kept, "nothing else touched", a.number, a.line);
     if (entries != NULL && a.entries <= room && a.entries > 0)
-        memcpy(entries, table, 16 * a.entries);
+        memcpy(entries, table, 20 * a.entries);
     if (a.number < 32)
         given[a.number]++;
     free(table);
@@ -178,13 +190,13 @@ plain_answer run_plain(const uint8_t *bytes, size_t len, size_t room,
 plain_answer run(const uint8_t *bytes, size_t len, size_t room)
 {
     size_t lines = count_lf(bytes, len) + 2;
-    uint32_t *slow = calloc(lines, 16), *quick = calloc(lines, 16);
+    uint32_t *slow = calloc(lines, 20), *quick = calloc(lines, 20);
     plain_answer a = run_plain(bytes, len, room < lines ? room : lines, quick);
     plain_answer b = naive_check(bytes, len, slow, room);
     is_true(plain_edition_of(bytes, len) == naive_edition(bytes, len), "edition as the slow reading", a.number, a.line);
     is_true(equal(a, b), "as the slow reading", a.number * 100000ul + a.line,
             b.number * 100000ul + b.line);
-    is_true(memcmp(slow, quick, 16 * (a.entries < lines ? a.entries : 0)) == 0,
+    is_true(memcmp(slow, quick, 20 * (a.entries < lines ? a.entries : 0)) == 0,
             "table as the slow reading", a.entries, a.line);
     free(slow);
     free(quick);

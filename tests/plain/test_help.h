@@ -38,6 +38,8 @@ void add_line(text *t, const char *s);
 
 void *exact_copy(const void *bytes, size_t len);
 uint8_t *edge_copy(const void *bytes, size_t len);
+uint8_t *far_area(size_t len);          /* zeros, as many as asked for, or NULL */
+void far_drop(uint8_t *area, size_t len);
 int equal(plain_answer a, plain_answer b);
 size_t count_lf(const uint8_t *bytes, size_t len);
 

@@ -9,10 +9,11 @@
 #include "test_people.h"
 #include "test_source.h"
 
-#define KIND(n) table[4 * ((n) - 1)]
-#define START(n) table[4 * ((n) - 1) + 1]
-#define LENGTH(n) table[4 * ((n) - 1) + 2]
-#define PARENT(n) table[4 * ((n) - 1) + 3]
+#define KIND(n) table[5 * ((n) - 1)]
+#define START(n) table[5 * ((n) - 1) + 1]
+#define LENGTH(n) table[5 * ((n) - 1) + 2]
+#define PARENT(n) table[5 * ((n) - 1) + 3]
+#define LAST(n) table[5 * ((n) - 1) + 4]
 
 static int is(unsigned kind, const char *name)
 {
@@ -381,7 +382,7 @@ static breach line_breach(plain_edition edition, const uint8_t *file, uint32_t *
     return b;
 }
 
-plain_answer naive_check(const uint8_t *file, size_t len, uint32_t *table, size_t room)
+static plain_answer read_all(const uint8_t *file, size_t len, uint32_t *table, size_t room)
 {
     plain_edition edition = naive_edition(file, len);
     size_t at = 0;
@@ -406,4 +407,16 @@ plain_answer naive_check(const uint8_t *file, size_t len, uint32_t *table, size_
             return (plain_answer){7, n, 0, n - 1};
         at = i + 2;
     }
+}
+
+/* A group goes on as long as no parent stands before its record: it needs the parents alone, and no climbing. */
+plain_answer naive_check(const uint8_t *file, size_t len, uint32_t *table, size_t room)
+{
+    plain_answer a = read_all(file, len, table, room);
+    for (uint32_t n = 1; n <= a.entries; n++) {
+        LAST(n) = n;
+        while (LAST(n) < a.entries && PARENT(LAST(n) + 1) >= n)
+            LAST(n)++;
+    }
+    return a;
 }

@@ -4,7 +4,7 @@
 
 #include "plain.h"
 
-/* Fills entries of four numbers for every line read; table has room for all. */
+/* Fills entries of five numbers for every line read; table has room for all. */
 plain_answer naive_check(const uint8_t *file, size_t len, uint32_t *table, size_t room);
 
 /* The edition of a file, by cutting off its first piece, before the first CR LF or all of it, and then counting bars in it
