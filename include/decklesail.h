@@ -31,7 +31,8 @@ extern "C" {
 uint32_t decklesail_edition(const uint8_t *file, size_t file_len);
 
 /* The check of a file by its own edition, with room for so many entries of the record table. No table is written; the answer is that of
- * the check with a table of `room` entries. A caller who wants no limit passes 65536, the most lines that a file may have, or more.
+ * the check with a table of `room` entries, five numbers each, of which C sees none: room counts entries and not numbers. A caller who
+ * wants no limit passes 65536, the most lines that a file may have, or more.
  *
  * The number: 0 for an accepted file, else that of the first breach, tried line by line and for each line in this order:
  *

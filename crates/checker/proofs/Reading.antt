@@ -15,17 +15,18 @@ use Rattle.dirf.specs.Edition.{Edition, kindOf}
 use Rattle.dirf.specs.Lines.{Piece, pieces, clean, fields, field}
 use Rattle.dirf.specs.FieldReader.{fieldOf}
 use Rattle.dirf.specs.Rules.{Found, keeps, breaks, given, orElse, ask, first}
-use Rattle.dirf.specs.Tree.{Rec, declarant, opening}
+use Rattle.dirf.specs.Tree.{Rec, Open, opening, declarant, numberOfFirst, place, parentOf}
 use Rattle.dirf.specs.Order.{here, kindOfLine, order, line-opens}
 use Rattle.dirf.specs.Order as parts
 use Rattle.dirf.specs.Check.{entryOf as entryAfter, bytesOf, tableOf, Verdict, refused, accepted, noBytesLeft, recOf, breach, afterLine}
 use Rattle.dirf.specs.Check.{run, verdict}
+use Rattle.dirf.specs.Theorems.Belongs.{level}
 use Rattle.dirf.specs.Theorems.Sound.{Sound}
 use Rattle.dirf.proofs.tests.Bools.{if-cases, by-answer}
 use Rattle.dirf.proofs.rules.RulesPut.{first-append}
 use Rattle.dirf.proofs.tree.History.{table-length}
-use Rattle.dirf.proofs.tree.OpenRecords.{open-depth}
-use Rattle.dirf.proofs.tree.Opened.{open-records}
+use Rattle.dirf.proofs.tree.OpenRecords.{OpenRecords, open-depth}
+use Rattle.dirf.proofs.tree.Opened.{open-records, placed}
 use Rattle.layout.specs.LaidOut.{SayBelow}
 use Rattle.rules.proofs.Laws.{or-keeps}
 use Rattle.checker.specs.Lines.{afterLine as behindLine, thirdKind}
@@ -37,7 +38,7 @@ use Rattle.checker.specs.declared.state.Past.{Past}
 use Rattle.checker.specs.declared.state.State.{State}
 use Rattle.checker.specs.declared.turn.Stepped.{Stepped}
 use Rattle.checker.specs.declared.turn.Record.{Record}
-use Rattle.checker.proofs.state.Sums.{Sums, sums-start, parent-same, held-few}
+use Rattle.checker.proofs.state.Sums.{Stack, Sums, sums-start, held-same, parent-same, held-few}
 use Rattle.checker.proofs.state.Next.{sums-next}
 use Rattle.checker.proofs.lines.NextLine.{line-is}
 use Rattle.checker.proofs.turn.Outcome.{early, lookRule, ln, kd, rec, readAs, Took, Outcome, Turned, answer-is, looked-is}
@@ -110,6 +111,12 @@ module _ {e : Edition} {below : List (List ℕ)} {file : Text} {room : ℕ} {st 
   pub record Goes (r : Record) : Type 0 where
     pub rec : Rec
     pub entry : entryOfCode (entryOf st r) ≡ entryAfter rec before
+    -- the open records above it are those that the code has found
+    pub up : List Open
+    pub known : OpenRecords before (suc (length before)) (level (rec .kind)) up
+    pub parent : rec .parent ≡ numberOfFirst up
+    pub outer : r .outer ≡ length up
+    pub stack : Stack (st .path .lines) (st .path .kinds) up
     pub reading : Reading e below file room (stateAfter st (r .kind) (r .outer) (r .len))
         (pastAfter past (r .kind) (above (st .path .lines) (r .outer)) (st .at) (r .len)) (rec ∷ before)
 
@@ -186,7 +193,7 @@ module _ {e : Edition} {below : List (List ℕ)} {file : Text} {room : ℕ} {st 
             (sym (looked-is (h .sums) (small (h .sums) all) (o .stands) (o .few)) ∙ q)
 
         more : breach e room before p ≡ keeps → Goes (readAs (h .sums))
-        unfolding afterLine recOf bytesOf entryAfter entryOf behind stateAfter behindLine
+        unfolding afterLine recOf bytesOf entryAfter entryOf behind stateAfter behindLine parentOf
         more b =
             let line : Text = ln (h .sums) in
             let r : Rec = rec (h .sums) in
@@ -197,6 +204,11 @@ module _ {e : Edition} {below : List (List ℕ)} {file : Text} {room : ℕ} {st 
               rec = r;
               entry = ap₂ (λ x y. record { kind = r .kind; start = x; length = length line; parent = y }) (h .sums .at)
                   (parent-same (h .sums) (r .kind) (o .stands));
+              up = place e before (r .kind) .up;
+              known = placed e (h .sums .sound) (h .sums .history) (r .kind) .known;
+              parent = refl;
+              outer = held-same (h .sums) (r .kind) (o .stands) .0;
+              stack = held-same (h .sums) (r .kind) (o .stands) .1;
               reading = record {
                 sums = sums-next (h .sums) (r .kind) (o .stands) line (line-is file (st .at)) (small (h .sums) all) say-next;
                 rest = ap (λ s. run e room (r ∷ before) (pieces s)) moved ∙ ap (run e room (r ∷ before)) (sym (o .whole .is-rest))

@@ -10,7 +10,7 @@ use Rattle.dirf.specs.Bytes.{Text}
 use Rattle.dirf.specs.Limits.{numbersAnEntry}
 use Rattle.dirf.specs.Check.{numbersOf, Verdict, answerTo}
 use Rattle.dirf.proofs.files.Files.{files}
-use Rattle.checker.specs.Answers.{answerOf, withEntries, tableAfter}
+use Rattle.checker.specs.Answers.{answerOf, withNumbers, tableAfter}
 use Rattle.checker.specs.Left.{Left}
 use Rattle.checker.proofs.Table.{length-numbers, with-length}
 use Rattle.checker.proofs.check.Reads as check
@@ -25,7 +25,7 @@ past front before i h =
 
 left : (file : Text) (before : List ℕ)
     → let v = answerTo file (length before / numbersAnEntry) in Left file before (tableAfter v before) (answerOf v)
-unfolding answerOf withEntries tableAfter
+unfolding answerOf withNumbers tableAfter
 left file before =
     let room : ℕ = length before / numbersAnEntry in
     let v : Verdict = answerTo file room in
@@ -38,8 +38,9 @@ left file before =
       accepted = λ q. count .when-accepted q .1 ∙ sym (count .when-accepted q .0);
       refused = count .when-refused;
       untouched = λ i h. past (numbersOf (v .table)) before i (omega (arith, long));
-      same-length = with-length before (v .table) (omega (arith, count .fits));
+      same-length = with-length before (numbersOf (v .table)) (omega (arith, count .fits, long));
       whose = files .whose file room;
+      groups = files .groups file room;
       pointed = files .entries file room;
     }
 

@@ -9,6 +9,7 @@ use Rattle.dirf.specs.Bytes.{Text}
 use Rattle.dirf.specs.Limits.{numbersAnEntry}
 use Rattle.dirf.specs.Check.{Entry, numbersOf}
 use Rattle.dirf.specs.Theorems.Whose.{Owned}
+use Rattle.dirf.specs.Theorems.Groups.{Grouped}
 use Rattle.dirf.specs.Theorems.Entries.{Pointed}
 use Rattle.checker.specs.declared.Answer.{Answer}
 
@@ -25,5 +26,7 @@ pub record Left (file : Text) (before after : List ℕ) (answer : Answer) : Type
   pub same-length : length after ≡ length before
   -- of each line it is said whose it is: every amount is the amount of the person above it, with nothing of another person between
   pub whose : Owned entries
+  -- the fifth number of each is the last line of its group so far
+  pub groups : Grouped entries
   -- the n-th entry points at the n-th line of the file
   pub pointed : Pointed file entries

@@ -7,22 +7,24 @@ use editions::Edition;
 use layout::COLUMNS;
 use layout::HOLDERS;
 use layout::ROW_BYTES;
+use state::DEPTH;
 use state::Last;
 use turn::Entry;
 ghost use mathlib.Core.Path.{_≡_};
 ghost use Prim.Native.Nat.{_+_, _*_, _/_, _≤_, _<_};
-ghost use lib.ListN.{length};
+ghost use lib.ListN.{length, getD};
 ghost use lib.Seq.{sets};
 ghost use Rattle.dirf.specs.Limits.{linesLimit, numbersAnEntry};
 ghost use Rattle.dirf.specs.Kinds.{DECPF};
+ghost use Rattle.dirf.specs.Theorems.Belongs.{deepest};
 ghost use Rattle.dirf.specs.Editions.{editionOf};
 ghost use Rattle.dirf.specs.Check.{entryNumbers, answerTo};
 ghost use Rattle.editions.specs.Editions.{editionSaid};
 ghost use Rattle.checker.specs.Lines.{thirdKind};
-ghost use Rattle.checker.specs.Answers.{answerOf, tableAfter, entryOfCode, putEntry, SayAll, Judged};
+ghost use Rattle.checker.specs.Answers.{answerOf, tableAfter, entryOfCode, putEntry, putLast, putLasts, SayAll, Judged};
 
-// Document 01: "The table has four 32-bit numbers a record".
-pub const NUMBERS_AN_ENTRY: usize = 4;
+// Document 02, A6: "Room in refusal 7 is now five numbers an entry".
+pub const NUMBERS_AN_ENTRY: usize = 5;
 
 // 0, the last line, 0 on acceptance; else a number, a line and a field; and how many entries the table has.
 pub struct Answer {
@@ -32,11 +34,11 @@ pub struct Answer {
     pub entries: u32,
 }
 
-// The numbers of an entry, in the table's order.
-fn entry_numbers(e: Entry) -> [u32; NUMBERS_AN_ENTRY]
-    ensures { λ r. ⌜ r ≡ entryNumbers (entryOfCode e) ⌝ }
+// The numbers of an entry, in the table's order: its own line is the last of its group so far.
+fn entry_numbers(e: Entry, own: u32) -> [u32; NUMBERS_AN_ENTRY]
+    ensures { λ r. ⌜ r ≡ entryNumbers (entryOfCode e) own ⌝ }
 {
-    [e.kind, e.start, e.len, e.parent]
+    [e.kind, e.start, e.len, e.parent, own]
 }
 
 // Numbers written from place i on.
@@ -59,6 +61,33 @@ fn put_entry(table: &mut [u32], n: u32, row: &[u32])
     let n = n as usize;
     if n < table.len() / NUMBERS_AN_ENTRY {
         put_numbers(table, NUMBERS_AN_ENTRY * n, row);
+    }
+}
+
+// A line as the last one of the group of line n, if the table holds the entry of that whole.
+fn put_last(table: &mut [u32], n: u32, own: u32)
+    requires { ⌜ 1 ≤ n ⌝ }
+    ensures { λ r. ⌜ now (table .exit) ≡ putLast (now (table .entry)) n own ⌝ }
+{
+    let n = n as usize;
+    if n <= table.len() / NUMBERS_AN_ENTRY {
+        table[NUMBERS_AN_ENTRY * n - 1] = own;
+    }
+}
+
+// And so of each record above it, of which there are so many.
+fn put_lasts(table: &mut [u32], lines: [u32; DEPTH], outer: usize, own: u32)
+    requires { ⌜ (outer ≤ deepest) × ((i : _) → i < outer → 1 ≤ getD lines i 0) ⌝ }
+    ensures { λ r. ⌜ now (table .exit) ≡ putLasts (now (table .entry)) lines outer own ⌝ }
+{
+    // a check without a table spends no more on it
+    if table.len() < NUMBERS_AN_ENTRY {
+        return;
+    }
+    let mut i = outer;
+    while 0 < i {
+        i -= 1;
+        put_last(table, lines[i], own);
     }
 }
 
@@ -105,8 +134,12 @@ fn walk(
             return turn::refused(st.count, 7, 0);
         }
         let entry = turn::entry_of(st, r);
-        let row = entry_numbers(entry);
+        let own = st.count + 1;
+        let row = entry_numbers(entry, own);
         put_entry(table, st.count, &row);
+        let path = st.path;
+        let lines = path.lines;
+        put_lasts(table, lines, r.outer, own);
         past.under[i] = entry.parent;
         past.starts[i] = entry.start;
         past.lens[i] = entry.len;

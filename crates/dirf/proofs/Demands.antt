@@ -9,8 +9,10 @@ use Rattle.dirf.proofs.files.Answered.{answered, only, accepted-exactly
 use Rattle.dirf.proofs.tables.Editions.{sound2025, sound2022, sound-named}
 use Rattle.dirf.proofs.files.GoodSoFar.{good-so-far}
 use Rattle.dirf.proofs.tree.Whose.{whose}
+use Rattle.dirf.proofs.tree.Groups.{grouped}
 use Rattle.dirf.proofs.files.Counts.{counts}
 use Rattle.dirf.proofs.files.Entries.{entries}
+use Rattle.dirf.proofs.found.Accepted.{finds-all}
 use Rattle.dirf.proofs.back.WriterBack.{writer-reads-back, reader-writes-back}
 
 pub demands : (e : Edition) → Sound e → Demands e
@@ -27,7 +29,9 @@ demands e sound =
       writer-columns-hold = writer-columns-hold;
       good-so-far = good-so-far e sound;
       whose = whose e sound;
+      groups = λ file room. grouped (whose e sound file room);
       entries = entries e sound;
+      finds = finds-all e sound;
     }
 
 pub demands2025 : Demands edition2025

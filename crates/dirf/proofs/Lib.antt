@@ -5,4 +5,5 @@ pub mod files
 pub mod tables
 pub mod tree
 pub mod back
+pub mod found
 pub mod Demands

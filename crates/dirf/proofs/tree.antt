@@ -8,4 +8,5 @@ pub mod Opened
 pub mod Held
 pub mod LastOfKind
 pub mod Whose
+pub mod Groups
 pub mod Slips

@@ -1,7 +1,8 @@
 -- The check of a file: acceptance with a record table, or the first breach.
 use Prim.Native.Nat.{ℕ, suc, _+_}
 use mathlib.Core.List.{List, [], _∷_, _++_}
-use lib.ListN.{length}
+use lib.Dec.{leb}
+use lib.ListN.{length, drop}
 use Rattle.dirf.specs.Bytes.{if_then_else_, Text}
 use Rattle.dirf.specs.Limits.{lineEnd}
 use Rattle.dirf.specs.Edition.{Edition}
@@ -31,13 +32,27 @@ unfoldable pub tableOf : List Rec → List Entry
 tableOf [] = []
 tableOf (r ∷ rs) = tableOf rs ++ (entryOf r rs ∷ [])
 
--- the numbers of an entry, as the table has them, and the table as numbers
-unfoldable pub entryNumbers : Entry → List ℕ
-entryNumbers t = t .kind ∷ t .start ∷ t .length ∷ t .parent ∷ []
+-- The group of a record is the record and all lines below it. It ends before the first line behind it whose parent stands above it: of
+-- these entries so many stand in the group of line n, whose entry stands right before them.
+unfoldable pub following : ℕ → List Entry → ℕ
+following n [] = 0
+following n (t ∷ ts) = if leb n (t .parent) then suc (following n ts) else 0
+
+-- 02, A6: "the last line of its group so far, itself if it has nothing below"; it is worked out from the parents
+unfoldable pub lastAt : List Entry → ℕ → ℕ
+lastAt ts n = n + following n (drop n ts)
+
+-- 02, A6: "Give each table entry a fifth number": the numbers of an entry, as the table has them, given the last line of its group
+unfoldable pub entryNumbers : Entry → ℕ → List ℕ
+entryNumbers t last = t .kind ∷ t .start ∷ t .length ∷ t .parent ∷ last ∷ []
+
+-- the numbers of entries from that of line n on, and the table as numbers
+unfoldable pub numbersFrom : (ℕ → ℕ) → ℕ → List Entry → List ℕ
+numbersFrom last n [] = []
+numbersFrom last n (t ∷ ts) = entryNumbers t (last n) ++ numbersFrom last (suc n) ts
 
 unfoldable pub numbersOf : List Entry → List ℕ
-numbersOf [] = []
-numbersOf (t ∷ ts) = entryNumbers t ++ numbersOf ts
+numbersOf ts = numbersFrom (lastAt ts) 1 ts
 
 -- 01: "The answer is number, line, field", and the table
 pub record Verdict : Type 0 where
@@ -87,5 +102,6 @@ answerTo file room = verdict (editionOf file) file room
 
 -- to compute with this file: `unfolding check-opens`
 unfoldable pub check-opens : Unit {0}
-unfolding bytesOf entryOf tableOf entryNumbers numbersOf refused accepted noBytesLeft recOf breach afterLine run verdict answerTo
+unfolding bytesOf entryOf tableOf following lastAt entryNumbers numbersFrom numbersOf refused accepted noBytesLeft recOf
+    breach afterLine run verdict answerTo
 check-opens = tt

@@ -346,6 +346,10 @@ belowSCP = BPFSCP ∷ BPJSCP ∷ []
 unfoldable pub beneficiaries : List ℕ
 beneficiaries = BPFDEC ∷ BPJDEC ∷ BPFFCI ∷ BPJFCI ∷ BPFPROC ∷ BPJPROC ∷ BPFRRA ∷ BPFSCP ∷ BPJSCP ∷ []
 
+-- 02, A6: "at the first company"
+unfoldable pub companies : List ℕ
+companies = BPJDEC ∷ BPJFCI ∷ BPJPROC ∷ BPJSCP ∷ []
+
 -- 02, A3: "INFPC and INFPA below the beneficiaries", private pension and alimony, "with their value records"
 unfoldable pub pensions : List ℕ
 pensions = INFPC ∷ INFPA ∷ []
@@ -387,5 +391,5 @@ opensNothing k = isIn k values || isIn k reimbursements
 
 -- to compute with this file: `unfolding kinds-opens`
 unfoldable pub kinds-opens : Unit {0}
-unfolding later blocks beneficiaries pensions values plan reimbursements isLater isBlock isBeneficiary standsOnce opensNothing
+unfolding later blocks beneficiaries companies pensions values plan reimbursements isLater isBlock isBeneficiary standsOnce opensNothing
 kinds-opens = tt

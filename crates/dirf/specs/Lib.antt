@@ -18,6 +18,7 @@ pub mod Keys
 pub mod Order
 pub mod Check
 pub mod FieldReader
+pub mod Search
 pub mod Written
 pub mod Amounts
 pub mod LineWriter

@@ -11,9 +11,9 @@ lineLimit = 1024
 abbrev pub linesLimit : ℕ
 linesLimit = 65536
 
--- 01, "Lines and limits": "The table has four 32-bit numbers a record."
+-- 01, "Lines and limits": "The table has four 32-bit numbers a record"; 02, A6: "Room in refusal 7 is now five numbers an entry"
 abbrev pub numbersAnEntry : ℕ
-numbersAnEntry = 4
+numbersAnEntry = 5
 
 -- 01, "Lines and limits": "Every field, the last included, ends with byte 124, the bar."
 abbrev pub bar : ℕ

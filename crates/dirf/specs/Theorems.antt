@@ -7,7 +7,9 @@ pub mod Answered
 pub mod GoodSoFar
 pub mod Counts
 pub mod Whose
+pub mod Groups
 pub mod Entries
+pub mod Found
 pub mod ThereAndBack
 pub mod Demands
 pub mod Files

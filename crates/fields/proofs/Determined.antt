@@ -38,6 +38,9 @@ field-one κs a x y s t p q = by-parts x y p q
 pub same-one : One fields.same.Reads.Post
 same-one κs a x y s t p q = p ∙ sym q
 
+pub less-one : One fields.less.Reads.Post
+less-one κs a x y s t p q = p ∙ sym q
+
 pub key-less-one : One fields.key_less.Reads.Post
 key-less-one κs a x y s t p q = p ∙ sym q
 

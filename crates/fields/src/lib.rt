@@ -69,7 +69,7 @@ pub fn same(a: &[u8], b: &[u8]) -> bool
 }
 
 // Byte by byte, a proper beginning first.
-fn less(a: &[u8], b: &[u8]) -> bool
+pub fn less(a: &[u8], b: &[u8]) -> bool
     ensures { λ r. ⌜ r ≡ lessText (now (a .entry)) (now (b .entry)) ⌝ }
 {
     let mut i = 0;

@@ -11,6 +11,9 @@ use writer::NumberWritten;
 ghost use Prim.Native.Nat.{_≤_, _<_};
 ghost use Rattle.io.specs.Counts.{Counts};
 
+// The most numbers in a table.
+const NUMBERS: usize = 20003;
+
 // A number out of a case, or none where the case is cut off.
 struct Number {
     ok: bool,
@@ -21,6 +24,14 @@ struct Number {
 struct Count {
     ok: bool,
     len: usize,
+}
+
+// What a search is asked, or none where the case is cut off or goes beyond.
+struct Question {
+    ok: bool,
+    len: usize,
+    line: u32,
+    width: usize,
 }
 
 // ---- reading a case
@@ -97,6 +108,47 @@ fn read_lengths(lengths: &mut [usize]) -> Count
         i += 1;
     }
     n
+}
+
+// A table of as many numbers as the first one says, each of 32 bits, put at the start of the buffer.
+fn read_table(table: &mut [u32]) -> Count
+    ensures { λ r. ⌜ Counts (r .len) (now (table .exit)) ⌝ }
+{
+    let n = read_at_most(table.len());
+    let mut i = 0;
+    while i < n.len {
+        let next = read_at_most(4294967295);
+        if !next.ok {
+            return Count { ok: false, len: 0 };
+        }
+        table[i] = next.len as u32;
+        i += 1;
+    }
+    n
+}
+
+fn read_entries(letter: u8, table: &mut [u32]) -> Count
+    ensures { λ r. ⌜ Counts (r .len) (now (table .exit)) ⌝ }
+{
+    if letter == b'S' {
+        return read_numbers_within(table);
+    }
+    read_table(table)
+}
+
+// A file, a line of 32 bits and a key, each byte string at the start of its buffer.
+fn read_question(file: &mut [u8], key: &mut [u8]) -> Question
+    ensures { λ r. ⌜ Counts (r .len) (now (file .exit)) × Counts (r .width) (now (key .exit)) ⌝ }
+{
+    let f = read_bytes(file);
+    let line = read_at_most(4294967295);
+    let k = read_bytes(key);
+    Question {
+        ok: f.ok && line.ok && k.ok,
+        len: f.len,
+        line: line.len as u32,
+        width: k.len,
+    }
 }
 
 // ---- what stands in a table or an output beforehand, far from all that is written there
@@ -223,6 +275,24 @@ fn replay_check(file: &[u8], table: &mut [u32]) {
     print_end();
 }
 
+fn replay_search(file: &[u8], table: &[u32], line: u32, key: &[u8]) {
+    let s = search::search(file, table, line, key);
+    print_first(s.number as u64);
+    print_next(s.line as u64);
+    print_next(s.count as u64);
+    print_end();
+}
+
+// For `S` with the entries that the check has written, and nothing more lent; for `T` with the table as it is.
+fn replay_question(letter: u8, file: &[u8], table: &mut [u32], line: u32, key: &[u8]) {
+    if letter == b'S' {
+        let a = checker::check(file, table);
+        replay_search(file, search::entries(table, a.entries), line, key);
+        return;
+    }
+    replay_search(file, table, line, key);
+}
+
 fn replay_line(e: Edition, kind: u32, contents: &[u8], lengths: &[usize], out: &mut [u8]) {
     fill_bytes(out);
     let w = writer::write_line(e, kind, contents, lengths, out);
@@ -291,7 +361,7 @@ fn replay_write_months(value: u64, out: &mut [u8]) {
 // ---- the cases as they are read; false where one is bad
 
 fn case_check() -> bool {
-    let mut table = [0u32; 12003];
+    let mut table = [0u32; NUMBERS];
     let mut file = io::large_buffer();
     let n = read_numbers_within(&table);
     if !n.ok {
@@ -304,6 +374,32 @@ fn case_check() -> bool {
     let size = n.len;
     let len = f.len;
     replay_check(&file[..len], &mut table[..size]);
+    true
+}
+
+// The size of a table for `S`, its numbers for `T`, and then the question.
+fn case_search(letter: u8) -> bool {
+    let mut table = [0u32; NUMBERS];
+    let mut file = io::large_buffer();
+    let mut key = io::large_buffer();
+    let n = read_entries(letter, &mut table);
+    if !n.ok {
+        return false;
+    }
+    let q = read_question(&mut file, &mut key);
+    if !q.ok {
+        return false;
+    }
+    let size = n.len;
+    let len = q.len;
+    let width = q.width;
+    replay_question(
+        letter,
+        &file[..len],
+        &mut table[..size],
+        q.line,
+        &key[..width],
+    );
     true
 }
 
@@ -408,6 +504,8 @@ fn case_write(letter: u8) -> bool {
 fn replay_case(letter: u8) -> bool {
     match letter {
         b'C' => case_check(),
+        b'S' => case_search(letter),
+        b'T' => case_search(letter),
         b'W' => case_line(Edition::Of2025),
         b'E' => case_edition(),
         b'F' => case_field(),

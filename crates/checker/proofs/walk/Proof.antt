@@ -13,8 +13,8 @@ use Rattle.checker.specs.State.{lastIn, stateAfter, pastAfter, Near}
 use Rattle.checker.specs.Turn.{Fits, lookedFound, entryOf}
 use Rattle.checker.specs.declared.state.State.{State}
 use Rattle.checker.proofs.turn.Stops.{looked-numbered, keeps-all}
-use Rattle.checker.proofs.Reading.{On, Step, near}
-use Rattle.checker.proofs.Held.{Held, held-start, same-length, answered, turn-step, held-next}
+use Rattle.checker.proofs.Reading.{Goes, On, Step, near}
+use Rattle.checker.proofs.Held.{Held, held-start, same-length, answered, turn-step, held-lines, held-next}
 use Rattle.checker.proofs.walk.Statement.{statement}
 use Rattle.checker.proofs.walk.Tie as tie
 
@@ -49,8 +49,11 @@ looked c = c .before .before .before .before .before .before
 abbrev asked : tie.After-struct-known3 Inv-loop μ-loop → tie.Else1 Inv-loop μ-loop
 asked c = looked (c .before .before .before)
 
-abbrev written : tie.After-slice-known2 Inv-loop μ-loop → tie.Else1 Inv-loop μ-loop
-written c = asked (c .before .before .before .before .before .before .before .before)
+abbrev put : tie.After-put-lasts-arg Inv-loop μ-loop → tie.Else3 Inv-loop μ-loop
+put c = c .before .before .before .before .before .before .before .before .before .before .before
+
+abbrev written : tie.After-slice-known3 Inv-loop μ-loop → tie.Else1 Inv-loop μ-loop
+written c = asked (put (c .before .before .before) .before)
 
 -- it keeps 21 and 20
 kept : (c : tie.Else2 Inv-loop μ-loop) → let o = looked (c .before .before) in let l = o .before .before .loop in
@@ -58,6 +61,11 @@ kept : (c : tie.Else2 Inv-loop μ-loop) → let o = looked (c .before .before) i
     lookedFound (o .before .before .before .before .before .before .before .args .file .now) (l .st) r (lastIn (l .past) (r .kind)) ≡ keeps
 unfolding lastIn
 kept c = keeps-all _ (c .before .before .looked .ensures) (looked-numbered _ _ _ _) (c .if2 .left)
+
+-- so it is taken where there is room
+goes : (c : tie.Else3 Inv-loop μ-loop)
+    → let o = asked (c .before) in Goes (o .before .before .loop .inv .reading) (o .before .turn .result .read)
+goes c = on (asked (c .before)) .goes (kept (c .before .before)) (c .if3 .left)
 
 returns : tie.Need-returns Inv-loop μ-loop
 returns c =
@@ -80,11 +88,17 @@ loop-again : tie.Need-loop-again Inv-loop μ-loop
 unfolding entryOf pastAfter
 loop-again c =
     let o = written (c .before) in
-    let w = c .before .before .before in
+    let p = c .before .before .before in
+    let w = p .before .before .before .before .before .before in
     let n = w .before .before .before in
-    rw (c .state-after .ensures, w .put-entry .ensures, n .entry-numbers .ensures, n .before .entry-of .ensures)
-    (held-next (o .before .before .loop .inv) (o .before .turn .result .read)
-    (on o .goes (kept (n .before .before .before .before)) (n .before .before .if3 .left)))
+    rw (
+      c .state-after .ensures,
+      p .put-lasts .ensures,
+      w .put-entry .ensures,
+      n .entry-numbers .ensures,
+      n .before .before .entry-of .ensures,
+    )
+    (held-next (o .before .before .loop .inv) (o .before .turn .result .read) (goes (n .before .before .before)))
 
 pub walk-spec : {M : Type 1} → statement M
 unfolding entryNumbers stateAfter
@@ -115,9 +129,14 @@ walk-spec =
     (λ c. long (asked (c .before .before) .before .before))
     returns-3
     (λ c κs. fits (asked (c .before)))
+    (λ c. omega (arith, close (asked (c .before .before .before) .before .before) .few))
     (λ c κs. search needs)
     (λ c. search needs)
-    (λ c κs. let n = c .before .before in (close (asked (n .before .before .before) .before .before) .few, rw (n .entry-numbers .ensures)))
+    (λ c κs.
+    let n = c .before .before in (close (asked (n .before .before .before .before) .before .before) .few, rw (n .entry-numbers .ensures)))
+    (λ c κs.
+    let o = asked (put c .before) in
+    (fits o .outer, held-lines (o .before .before .loop .inv) (o .before .turn .result .read) (goes (put c))))
     (λ c. omega (arith, fits (written c) .kind))
     (λ c. omega (arith, fits (written c) .kind))
     (λ c. omega (arith, fits (written c) .kind))

@@ -18,10 +18,10 @@ decided false true u h = inr (refl, h)
 decided false false u h = absurd (false≢true h)
 
 -- a test of "smaller" that is an order, beside a test of "the same"
-record Ordered {A : Type 0} (lt eq : A → A → Bool) : Type 0 where
-  irreflexive : (a : A) → lt a a ≡ false
-  transitive : (a b c : A) → lt a b ≡ true → lt b c ≡ true → lt a c ≡ true
-  same : (a b : A) → eq a b ≡ true → a ≡ b
+pub record Ordered {A : Type 0} (lt eq : A → A → Bool) : Type 0 where
+  pub irreflexive : (a : A) → lt a a ≡ false
+  pub transitive : (a b c : A) → lt a b ≡ true → lt b c ≡ true → lt a c ≡ true
+  pub same : (a b : A) → eq a b ≡ true → a ≡ b
 
 -- a test of lists that goes by their first difference, a proper beginning first
 record Lexical {A : Type 0} (lt eq : A → A → Bool) (ltOf : List A → List A → Bool) : Type 0 where
@@ -60,7 +60,7 @@ numbers-ordered =
     }
 
 -- both tests of lists go by their first difference, by computing
-texts-ordered : Ordered less same
+pub texts-ordered : Ordered less same
 unfolding less
 texts-ordered =
     let by-byte : Lexical ltb eqb less =

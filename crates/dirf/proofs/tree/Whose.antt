@@ -17,7 +17,8 @@ use Rattle.dirf.specs.Theorems.Sound.{Sound}
 use Rattle.dirf.specs.Theorems.Whose.{kindAt, parentAt, IsLine, PersonOf, Owned, Whose}
 use Rattle.dirf.proofs.tests.Bools.{by-answer}
 use Rattle.dirf.proofs.tests.Says.{isIn-says, below-or}
-use Rattle.dirf.proofs.tree.Belongs.{idrec-deep, idrec-high, idrec-parent, idrec-no-plan, idrec-group, later-block, pse-block, plan-parent}
+use Rattle.dirf.proofs.tree.Belongs.{idrec-deep, idrec-high, idrec-parent, idrec-no-plan, idrec-group, later-block, pse-block}
+use Rattle.dirf.proofs.tree.Belongs.{plan-parent}
 use Rattle.dirf.proofs.tree.Belongs.{value-deep, value-parent, pension-deep, pension-parent, pension-listed, person-group}
 use Rattle.dirf.proofs.tree.Belongs.{pension-group}
 use Rattle.dirf.proofs.tree.History.{History, answer-table}
@@ -52,8 +53,11 @@ module _ (e : Edition) (sound : Sound e) where
         (λ b. absurd (omega (arith, block-third e sound h p lp b .0, s .unbroken m over under, three)))
         (idrec-parent (kindAt t p) (kindAt t n) i (s .to)) in
         let small : m ≤ length (x .before) = omega (arith, x .number) in
-        let least = last-least (x .before) (y .last) (y .o ∷ y .outer) (x .this .kind) (λ _. y .ordered) (y .known-last)
-        (y .known .line .0, idrec-high (y .o .kind) (x .this .kind) (ap (λ z. z .kind) (sym (x .entry)) ∙ i) (holder-parent e _ _ sound _ _ (y .holds)))
+        let least = last-least (x .before) (y .last) (y .o ∷ y .outer) (x .this .kind) (λ _. y .ordered) (y .known-last) (
+          y .known .line .0,
+          idrec-high (y .o .kind) (x .this .kind) (ap (λ z. z .kind) (sym (x .entry)) ∙ i)
+              (holder-parent e _ _ sound _ _ (y .holds)),
+        )
         m small (ap (λ z. z .parent) (sym (x .earlier m small)) ∙ omega (arith, three, holder, y .parent)) in
         omega (arith, least, ap (λ z. z .kind) (x .earlier m small), later-block block, ap (λ z. z .kind) (x .entry), i)
 
@@ -122,7 +126,7 @@ module _ (e : Edition) (sound : Sound e) where
                 },
               )
 
-  owned : (before : List Rec) → History e before → Owned (tableOf before)
+  pub owned : (before : List Rec) → History e before → Owned (tableOf before)
   owned before h =
       record {
         line = λ n l.

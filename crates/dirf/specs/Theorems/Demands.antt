@@ -5,7 +5,9 @@ use Rattle.dirf.specs.Theorems.Answered.{Answered, Only, AcceptedExactly
 use Rattle.dirf.specs.Theorems.GoodSoFar.{GoodUpToHere}
 use Rattle.dirf.specs.Theorems.Counts.{Counts}
 use Rattle.dirf.specs.Theorems.Whose.{Whose}
+use Rattle.dirf.specs.Theorems.Groups.{Groups}
 use Rattle.dirf.specs.Theorems.Entries.{Entries}
+use Rattle.dirf.specs.Theorems.Found.{Finds}
 use Rattle.dirf.specs.Theorems.ThereAndBack.{WriterReadsBack, ReaderWritesBack}
 
 pub record Demands (e : Edition) : Type 0 where
@@ -23,6 +25,9 @@ pub record Demands (e : Edition) : Type 0 where
   pub writer-columns-hold : WriterColumnsHold
   -- demand 3: good up to here
   pub good-so-far : GoodUpToHere (λ file. e)
-  -- whose each line is, and which bytes of the file its entry points at
+  -- whose each line is, what stands in whose group, and which bytes of the file an entry points at
   pub whose : Whose e
+  pub groups : Groups e
   pub entries : Entries e
+  -- 02, A6: the search answers what reading every line answers
+  pub finds : Finds e
