@@ -2,40 +2,30 @@
 """Writes stdin, a run of cases, and stdout, what documents 01 and 02 demand for each, to crates/replay or to the folder that is named.
 
 Nothing here asks the program. Of a file the number, the line and the field are written beside it, and the indents of its lines say which
-line is the parent of which; of docs/TOUR.md's file the page says it. Records, rows and lists are those of layout.txt, and each case says
-what it breaks; all else in it is right, check digits and flags too, since makers.py makes them. The layout of a case is in docs/REPLAY.md.
-Run it from anywhere; it writes the same bytes every time.
+line is the parent of which, and so the last line of each group; of docs/TOUR.md's file the page says it. Records, rows and lists are those
+of layout.txt, and each case says what it breaks; all else in it is right, check digits and flags too, since makers.py makes them. What
+cases are made of is in replay_form.py, those of groups and of the search are in search_cases.py, and the layout of a case is in
+docs/REPLAY.md. Run it from anywhere; it writes the same bytes every time.
 """
 import itertools
 import os
-import struct
 import sys
 
 # no folder of compiled modules is left in the repository
 sys.dont_write_bytecode = True
-import layout
 import makers
+import search_cases
 import tour as tour_page
+from replay_form import (
+    ANNUAL, CNPJ, CPF, END, FIRST, KIND, LATER, LAYOUT, LAYOUTS, LINE, MONTHLY, NUMBERS, OTHER_CNPJ, ROWS, RUN, WANTED,
+    bytes_of, case, cells_of, check, check_bytes, held, number, older, pf, pj, string, with_cell, with_cells, with_field, with_first,
+    words,
+)
 
 ROOT = os.path.dirname(os.path.dirname(os.path.abspath(__file__)))
-END = "\r\n"
-CPF, CNPJ, OTHER_CNPJ = makers.PERSON, makers.COMPANY, makers.cnpj(222223330001)
 # two digits swapped
 SWAPPED = "11144477753"
 
-# names, rows and lists are not typed again: tools/layout.txt has them
-LAYOUTS = layout.read()
-# a kind has the same number in both editions, and the older one has no other kinds and no other rows but Dirf's
-LAYOUT = LAYOUTS[2025]
-KIND, LATER, ROWS = LAYOUT.kinds, LAYOUT.later, LAYOUT.rows
-
-
-def alike(name):
-    """The records that have the rows of this one, the identifier aside."""
-    return [other for other, rows in ROWS.items() if rows[1:] == ROWS[name][1:]]
-
-
-MONTHLY, ANNUAL = alike("RTRT"), alike("RIL96")
 # one of each group of records that have their rows together
 SAMPLES = [name for name in ROWS if name not in MONTHLY[1:] + ANNUAL[1:]]
 
@@ -60,118 +50,11 @@ PENSIONS, PLAN = ["INFPC", "INFPA"], ["OPSE", "TPSE", "RTPSE", "DTPSE", "RDTPSE"
 OTHERS = [name for name in ROWS if name not in MONTHLY + ANNUAL + PENSIONS and any(name in HELD[who] for who in PEOPLE)]
 VALUES = MONTHLY + ANNUAL + OTHERS
 
-# a line of each record that keeps every rule; value records besides, below. The declarants' are those of a file without blocks
-LINE = {
-    "Dirf": "Dirf|2025|2024|N||R6GP3ZA|",
-    "RESPO": f"RESPO|{CPF}|ANA LIMA|11|33334444||||",
-    "DECPF": makers.declarant("DECPF"),
-    "DECPJ": makers.declarant("DECPJ"),
-    "IDREC": "IDREC|0561|",
-    "BPFDEC": f"BPFDEC|{CPF}|ANA LIMA||N|N|",
-    "BPJDEC": f"BPJDEC|{CNPJ}|SERRA LTDA|",
-    "FCI": f"FCI|{CNPJ}|FUNDO SERRA|",
-    "BPFFCI": f"BPFFCI|{CPF}|ANA LIMA||",
-    "BPJFCI": f"BPJFCI|{CNPJ}|SERRA LTDA|",
-    "PROC": "PROC|1|12345|||||",
-    "BPFPROC": f"BPFPROC|{CPF}|ANA LIMA||",
-    "BPJPROC": f"BPJPROC|{CNPJ}|SERRA LTDA|",
-    "RRA": "RRA|1||||||",
-    "BPFRRA": f"BPFRRA|{CPF}|ANA LIMA|||N|",
-    "RIO": "RIO|100|OUTROS|",
-    "QTMESES": "QTMESES|10" + "|" * 12,
-    "SCP": f"SCP|{CNPJ}|SCP SERRA|",
-    "BPFSCP": f"BPFSCP|{CPF}|ANA LIMA||",
-    "BPJSCP": f"BPJSCP|{CNPJ}|SERRA LTDA||",
-    "INFPC": f"INFPC|{CNPJ}|PREVIDENCIA SERRA|",
-    "INFPA": f"INFPA|{CPF}||BIA LIMA||",
-    "PSE": "PSE|",
-    "OPSE": f"OPSE|{CNPJ}|SAUDE SERRA||",
-    "TPSE": f"TPSE|{CPF}|ANA LIMA|100|",
-    "RTPSE": f"RTPSE|{CPF}|RUI DIAS|100||",
-    "DTPSE": f"DTPSE|{CPF}||BIA LIMA||100|",
-    "RDTPSE": f"RDTPSE|{CPF}|RUI DIAS|100||",
-    "FIMDirf": "FIMDirf|",
-}
-LINE.update({name: name + "|100" + "|" * 13 for name in MONTHLY})
-LINE.update({name: name + "|100|" for name in ANNUAL})
-
-# line 1 of each edition
-FIRST = {2025: LINE["Dirf"], 2022: "Dirf|2022|2021|N||XJFSFHB|"}
 # what the older edition has not
 GONE = ("RTDS", "ESDS")
 
 # what has a lawyer, in fields 4 to 6
 WITH_LAWYER = ("PROC", "RRA")
-
-RUN = []
-WANTED = []
-
-
-# ---- the form of a case
-
-
-def number(value):
-    return struct.pack("<Q", value)
-
-
-def string(data):
-    data = data if isinstance(data, bytes) else data.encode("latin-1")
-    return number(len(data)) + data
-
-
-def case(letter, parts, line):
-    RUN.append(letter.encode() + b"".join(parts))
-    WANTED.append(line)
-
-
-def words(*items):
-    return " ".join(str(item) for item in items if item != "")
-
-
-def line_of(name, records):
-    """The line of a record, in a file that has these records: a declarant's flags follow from them."""
-    return makers.declarant(name, records) if name in makers.FLAGS else LINE.get(name, name)
-
-
-def lines_of(tree):
-    """The lines of a tree, and of each the number of the line above it that is indented less, 0 where none is."""
-    lines, open_lines = [], []
-    rows = tree.strip("\n").split("\n")
-    records = {row.lstrip(" ").split("|")[0] for row in rows}
-    for row in rows:
-        text = row.lstrip(" ")
-        depth = len(row) - len(text)
-        open_lines = [(d, n) for d, n in open_lines if d < depth]
-        # a name stands for its line above; = means the text as it is
-        text = text[1:] if text.startswith("=") else line_of(text, records)
-        lines.append((text, open_lines[-1][1] if open_lines else 0))
-        open_lines.append((depth, len(lines)))
-    return lines
-
-
-def check_bytes(data, lines, breach, line, field=0, room=None, spare=3):
-    """A file's bytes; the lines that stand in it, as far as the line named; and document 01's number, line and field."""
-    entries = line if breach == 0 else line - 1
-    table, start = [], 0
-    for text, parent in lines[:entries]:
-        table += [KIND[text.split("|")[0]], start, len(text), parent]
-        start += len(text) + len(END)
-    size = 4 * (len(lines) + 2 if room is None else room) + spare
-    case("C", [number(size), string(data)], words(breach, line, field, entries, 1, *table))
-
-
-def check(tree, breach, line, field=0, after="", **more):
-    """A tree of lines; `after` is what follows the last one's CR LF."""
-    lines = lines_of(tree)
-    check_bytes("".join(text + END for text, _ in lines) + after, lines, breach, line, field, **more)
-
-
-def pf(tree):
-    return "Dirf\nRESPO\nDECPF\n" + tree.strip("\n")
-
-
-def pj(tree):
-    return "Dirf\nRESPO\nDECPJ\n" + tree.strip("\n")
 
 
 def write(kind, cells, breach, field=0, room=300, contents=None, lengths=None, edition=None):
@@ -182,24 +65,6 @@ def write(kind, cells, breach, field=0, room=300, contents=None, lengths=None, e
     given = [number(kind), number(room), string(contents), number(len(lengths))] + [number(n) for n in lengths]
     letter, told = ("W", []) if edition is None else ("E", [number(edition)])
     case(letter, told + given, words(breach, field, len(text), 1, text.encode("latin-1").hex()))
-
-
-def cells_of(name, records=()):
-    return line_of(name, records).split("|")[:-1]
-
-
-def with_cell(name, field, cell, records=()):
-    cells = cells_of(name, records)
-    return cells[: field - 1] + [cell] + cells[field:]
-
-
-def with_field(name, field, cell, records=()):
-    return "|".join(with_cell(name, field, cell, records)) + "|"
-
-
-def with_cells(name, cells):
-    """The fields of a record with these put in, by their numbers."""
-    return [cells.get(field, cell) for field, cell in enumerate(cells_of(name), 1)]
 
 
 def lawyer(name, field, cell):
@@ -236,7 +101,7 @@ def marked():
 def line_ends():
     """4, 5, 6 and 8, at 1,024 and 1,025 bytes too, in line 1 and in line 2."""
     for before in ([], [(LINE["Dirf"], 0)]):
-        head = "".join(text + END for text, _ in before)
+        head = bytes_of(before)
         line = len(before) + 1
         for data, breach in [
             ("a", 5), ("a\r", 5), ("\r", 5), ("a|", 5), ("FIMDirf|\r", 5),
@@ -548,7 +413,7 @@ def rooms():
         check(tree, breach, line, field, room=line - 1)
         if line > 3:
             check(tree, 7, line - 1, 0, room=line - 2)
-    for spare in range(4):
+    for spare in range(NUMBERS):
         check(SIX, 0, 6, room=6, spare=spare)
         check(SIX, 7, 6, room=5, spare=spare)
         check(SIX, 7, 1, room=0, spare=spare)
@@ -894,7 +759,7 @@ def wrong_checkers():
 
 
 def check_lines(lines, breach, line, field=0):
-    check_bytes("".join(text + END for text, _ in lines), lines, breach, line, field)
+    check_bytes(bytes_of(lines), lines, breach, line, field)
 
 
 def may_hold(holder, outer, name):
@@ -1007,11 +872,6 @@ def rest_of(digits, which):
     """What the sum for the first (0) or the second (1) check digit leaves."""
     weights, front = (makers.CPF_WEIGHTS, 11) if len(digits) == makers.CPF_SIZE else (makers.CNPJ_WEIGHTS, 6)
     return makers.rest(digits, [front] + weights if which else weights)
-
-
-def held(what, name):
-    if not what:
-        sys.exit(f"replay_cases.py: {name} is not what it is there for")
 
 
 def identity(digits, breach):
@@ -1387,14 +1247,6 @@ def plan_fields():
 # ---- the two editions: document 02, A4, and of the older one what document 000 prints
 
 
-def with_first(line, tree):
-    return "=" + line + tree[tree.index("\n") :]
-
-
-def older(tree):
-    return with_first(FIRST[2022], tree)
-
-
 def first_lines():
     """Field 6 of a Dirf picks the edition, fields 2 and 3 do not; what stands in line 1 is judged by that edition."""
     for fields, breach, field in [
@@ -1532,10 +1384,10 @@ def first_lines_written():
 
 def limits():
     """The most that a case may have, and last of all a case beyond it: what comes after that is not read."""
-    check_bytes("".join(text + END for text, _ in lines_of(SIX)), lines_of(SIX), 0, 6, room=3000, spare=3)
+    check(SIX, 0, 6, room=4000, spare=3)
     for edition in (None, 2025, 2022):
         write(KIND["FIMDirf"], ["FIMDirf"], 0, room=4096, edition=edition)
-    case("C", [number(12004), string("")], "bad case")
+    case("C", [number(20004), string("")], "bad case")
     RUN.append(b"A" + string("1"))
 
 
@@ -1543,7 +1395,8 @@ def main(folder=os.path.join(ROOT, "crates", "replay")):
     for group in (marked, line_ends, identifiers, whole_files, places, below, orders, rooms, pairs, field_rules, identifier_rules,
     conditions, writer_order, field_places, numbers, wrong_checkers, tour, check_digits, digit_fields, digit_pairs, lawyers, lawyer_pairs,
     pension_places, groups, pension_keys, plan_places, plan_keys, plan_fields,
-    first_lines, picked, later_lines, first_line_ends, older_files, gone, kinds_written, first_lines_written, limits):
+    first_lines, picked, later_lines, first_line_ends, older_files, gone, kinds_written, first_lines_written,
+    *search_cases.GROUPS, limits):
         group()
     with open(os.path.join(folder, "stdin"), "wb") as out:
         out.write(b"".join(RUN))
