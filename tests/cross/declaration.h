@@ -16,10 +16,11 @@ typedef struct {
     uint8_t bytes[MOST_BYTES], end[4];
 } text_line;
 
-/* Its edition is the one that its lines were made by; line 1 may come to say another. */
+/* Its edition is the one that its lines were made by; line 1 may come to say another. In a crowd so many more persons, or companies, than
+   a few may stand below one record. */
 typedef struct {
     plain_edition edition;
-    unsigned declarant, count;
+    unsigned declarant, count, crowd;
     text_line line[MOST_LINES];
 } declaration;
 

@@ -7,7 +7,7 @@
 
 #include "met.h"
 
-enum { MOST_TABLE = 12003, MOST_ROOM = 4096, MOST_STRING = 65536, MOST_LENGTHS = 32 };
+enum { MOST_TABLE = 20003, MOST_ROOM = 4096, MOST_STRING = 65536, MOST_LENGTHS = 32 };
 
 /* One case. `judged` is how many of its bytes the demanded answer is worked out from: all, or the part that a tail follows. */
 typedef struct {

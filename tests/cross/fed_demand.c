@@ -2,18 +2,7 @@
 #include <string.h>
 
 #include "fed.h"
-
-static void put_number(FILE *out, uint64_t n)
-{
-    for (unsigned i = 0; i < 8; i++)
-        fputc((int)(n >> (8 * i) & 255), out);
-}
-
-static void put_string(FILE *out, const fed *c)
-{
-    put_number(out, c->len);
-    fwrite(c->bytes, 1, c->len, out);
-}
+#include "feed.h"
 
 int is_line(const fed *c)
 {
@@ -30,7 +19,7 @@ void write_fed(FILE *out, const fed *c)
     if (strchr("WEam", c->letter))
         put_number(out, c->room);
     if (strchr("CWEFAM", c->letter))
-        put_string(out, c);
+        put_string(out, c->bytes, c->len);
     if (!is_line(c))
         return;
     put_number(out, c->count);
@@ -51,7 +40,7 @@ static fault demand_check(FILE *out, const fed *c)
     static uint32_t table[MOST_TABLE];
     plain_answer a = plain_check(c->bytes, c->judged, table, c->number);
     fprintf(out, "%u %u %u %zu 1", a.number, a.line, a.field, a.entries);
-    for (size_t i = 0; i < 4 * a.entries; i++)
+    for (size_t i = 0; i < TABLE_NUMBERS * a.entries; i++)
         fprintf(out, " %u", table[i]);
     return (fault){a.number, a.field};
 }

@@ -17,7 +17,7 @@ static void take_file(fed *c, const file_text *file)
 static void cut_case(fed *c, file_text *file, met *m)
 {
     cut_at_line(file);
-    plain_answer a = plain_check_room(file->bytes, file->len, 3000);
+    plain_answer a = plain_check_room(file->bytes, file->len, MOST_TABLE / TABLE_NUMBERS);
     size_t judged = file->len;
     if (a.number == 1)
         close_file(file, a.line - 1);
@@ -26,7 +26,7 @@ static void cut_case(fed *c, file_text *file, met *m)
     take_file(c, file);
     if (a.number > 1 && judged < c->len)
         c->judged = judged;
-    c->number = 12000 + chance(4);
+    c->number = MOST_TABLE - chance(4);
     if (a.number == 1)
         count_closed(m, (part){c->bytes, c->len}, a.line - 1);
     m->fixed[plain_edition_of(c->bytes, c->judged)] += a.number > 1;
@@ -42,9 +42,9 @@ static void check_case(fed *c, uint64_t seed, met *m)
         cut_case(c, &file, m);
         return;
     }
-    c->number = chance(4) ? 12000 + chance(4) : chance(4 * d.count + 8);
+    c->number = chance(4) ? MOST_TABLE - chance(4) : chance(TABLE_NUMBERS * (d.count + 2));
     take_file(c, &file);
-    plain_answer a = plain_check_room(c->bytes, c->len, c->number / 4);
+    plain_answer a = plain_check_room(c->bytes, c->len, c->number / TABLE_NUMBERS);
     m->number[a.number]++;
     count_file(m, (part){c->bytes, c->len}, a, p);
     count_plan(m, p, a.number);

@@ -6,7 +6,7 @@
 #include "met_inner.h"
 
 /* More than any file from a seed has. */
-enum { MOST_ENTRIES = 4000, ENTRY = 4, ENTRY_KIND = 0, ENTRY_PARENT = 3, DECLARANT_LINE = 3 };
+enum { MOST_ENTRIES = 4000, DECLARANT_LINE = 3 };
 
 /* Where a record stands. */
 typedef struct {
@@ -17,19 +17,19 @@ typedef struct {
 /* The kind of a line, and its parent's line; NO_KIND and 0 of line 0. */
 static unsigned kind_at(const uint32_t *table, uint32_t line)
 {
-    return line ? table[ENTRY * (line - 1) + ENTRY_KIND] : NO_KIND;
+    return line ? table[TABLE_NUMBERS * (line - 1) + ENTRY_KIND] : NO_KIND;
 }
 
 static uint32_t parent_at(const uint32_t *table, uint32_t line)
 {
-    return line ? table[ENTRY * (line - 1) + ENTRY_PARENT] : 0;
+    return line ? table[TABLE_NUMBERS * (line - 1) + ENTRY_PARENT] : 0;
 }
 
 void count_records(records_met *m, part file)
 {
-    static uint32_t table[ENTRY * MOST_ENTRIES];
+    static uint32_t table[TABLE_NUMBERS * MOST_ENTRIES];
     plain_edition edition = plain_edition_of(file.bytes, file.len);
-    plain_answer a = plain_check(file.bytes, file.len, table, ENTRY * MOST_ENTRIES);
+    plain_answer a = plain_check(file.bytes, file.len, table, TABLE_NUMBERS * MOST_ENTRIES);
     for (uint32_t line = 1; line <= a.line && a.number == 0; line++) {
         uint32_t parent = parent_at(table, line);
         unsigned of_rra = kind_at(table, parent_at(table, parent)) == BPFRRA;

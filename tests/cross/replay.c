@@ -4,64 +4,19 @@
 #include <string.h>
 
 #include "fed.h"
+#include "feed.h"
 #include "shrink.h"
 
-enum { BATCH = 2000, MOST_LINE = 1 << 18 };
+enum { BATCH = 2000 };
 
-static const char *folder, *command;
-static int wrong;
+static feeder replay;
 static unsigned long differences;
 static fed now;
-static char got[MOST_LINE], want[MOST_LINE];
 
-static FILE *open_file(const char *name, const char *mode)
+static void spoil(char *line)
 {
-    char path[4096];
-    snprintf(path, sizeof path, "%s/%s", folder, name);
-    FILE *f = fopen(path, mode);
-    if (!f) {
-        perror(path);
-        exit(2);
-    }
-    return f;
-}
-
-static void run_replay(void)
-{
-    char line[16384];
-    snprintf(line, sizeof line, "%s < %s/cases > %s/got", command, folder, folder);
-    if (system(line) != 0) {
-        fprintf(stderr, "replay did not end well: %s\n", line);
-        exit(2);
-    }
-}
-
-/* The next line of both; 1 while either has one. */
-static int next_lines(FILE *printed, FILE *demanded)
-{
-    if (!fgets(got, MOST_LINE, printed))
-        got[0] = 0;
-    if (!fgets(want, MOST_LINE, demanded))
-        want[0] = 0;
-    if (wrong && strncmp(got, "16 ", 3) == 0)
-        got[1] = '5';
-    return got[0] != 0 || want[0] != 0;
-}
-
-/* Runs what is in the file of cases; gives the first case that differs, or -1. */
-static long first_difference(void)
-{
-    run_replay();
-    FILE *printed = open_file("got", "rb"), *demanded = open_file("want", "rb");
-    long at = -1, i = 0;
-    while (at < 0 && next_lines(printed, demanded)) {
-        if (strcmp(got, want) != 0)
-            at = i;
-        i++;
-    }
-    fclose(printed);
-    fclose(demanded);
-    return at;
+    if (strncmp(line, "16 ", 3) == 0)
+        line[1] = '5';
 }
 
 /* The case at hand, with these bytes. */
@@ -69,12 +24,10 @@ static int differs(const uint8_t *bytes, size_t len)
 {
     memmove(now.bytes, bytes, len);
     now.len = now.judged = len;
-    FILE *cases = open_file("cases", "wb"), *demanded = open_file("want", "wb");
-    write_fed(cases, &now);
-    demand_line(demanded, &now);
-    fclose(cases);
-    fclose(demanded);
-    return first_difference() >= 0;
+    feeding to = begin_feeding(&replay);
+    write_fed(to.cases, &now);
+    demand_line(to.demanded, &now);
+    return end_feeding(&replay, to) >= 0;
 }
 
 static void report(uint64_t seed)
@@ -90,7 +43,8 @@ static void report(uint64_t seed)
         differs(bytes, len);
     }
     printf("case %llu, %c %u %llu %llu: replay prints\n%sbut the plain checker demands\n%sof these bytes:\n", (unsigned long long)seed,
-        now.letter, year_of(now.edition), (unsigned long long)now.number, (unsigned long long)now.room, got, want);
+        now.letter, year_of(now.edition), (unsigned long long)now.number, (unsigned long long)now.room, printed_line(),
+        demanded_line());
     show(stdout, bytes, len);
     differences++;
 }
@@ -121,17 +75,15 @@ static void count_line(met *m, fault found)
 
 static void run_batch(uint64_t seed, unsigned long count, met *m)
 {
-    FILE *cases = open_file("cases", "wb"), *demanded = open_file("want", "wb");
+    feeding to = begin_feeding(&replay);
     for (unsigned long i = 0; i < count; i++) {
         make_fed(seed + i, &now, m);
-        write_fed(cases, &now);
-        fault found = demand_line(demanded, &now);
+        write_fed(to.cases, &now);
+        fault found = demand_line(to.demanded, &now);
         m->number[found.number] += now.letter != 'C';
         count_line(m, found);
     }
-    fclose(cases);
-    fclose(demanded);
-    long at = first_difference();
+    long at = end_feeding(&replay, to);
     if (at >= 0)
         report(seed + (uint64_t)at);
 }
@@ -143,9 +95,7 @@ int main(int argc, char **argv)
         return 2;
     unsigned long cases = strtoul(argv[1], NULL, 10);
     uint64_t seed = strtoull(argv[2], NULL, 10) << 32;
-    folder = argv[3];
-    command = argv[4];
-    wrong = argc > 5 && strcmp(argv[5], "wrong") == 0;
+    replay = (feeder){argv[3], argv[4], argc > 5 && strcmp(argv[5], "wrong") == 0 ? spoil : NULL};
     /* after a difference the rest says little more */
     for (unsigned long i = 0; i < cases && differences == 0; i += BATCH)
         run_batch(seed + i, cases - i < BATCH ? cases - i : BATCH, &m);

@@ -142,10 +142,17 @@ static void values(declaration *d, unsigned above, unsigned parent, group_keys *
         groups(d, parent, keys);
 }
 
+/* A few, and in a crowd some more. */
+static unsigned people_here(const declaration *d)
+{
+    unsigned count = few(d);
+    return d->crowd && d->count < ENOUGH ? count + chance(d->crowd + 1) : count;
+}
+
 static void people(declaration *d, unsigned kind)
 {
     uint64_t key = chance(2) ? 0 : chance(1000000);
-    for (unsigned left = few(d); left > 0; left--) {
+    for (unsigned left = people_here(d); left > 0; left--) {
         group_keys keys = {0};
         rising_key(add(d, kind), plain_field_row(d->edition, kind, 2).size, &key);
         values(d, NO_KIND, kind, &keys);
@@ -280,7 +287,7 @@ static void keep_indicators(declaration *d)
     }
 }
 
-void sound_declaration(declaration *d)
+static void declare(declaration *d)
 {
     d->count = 0;
     d->edition = chance(2) ? PLAIN_2025 : PLAIN_2022;
@@ -299,4 +306,16 @@ void sound_declaration(declaration *d)
     keep_flags(d, line);
     keep_indicators(d);
     add(d, FIMDIRF);
+}
+
+void sound_declaration(declaration *d)
+{
+    d->crowd = 0;
+    declare(d);
+}
+
+void sound_crowd(declaration *d)
+{
+    d->crowd = 5;
+    declare(d);
 }

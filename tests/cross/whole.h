@@ -8,6 +8,9 @@
 /* An accepted declaration of some four to eighty lines, of either edition. */
 void sound_declaration(declaration *d);
 
+/* The same with more persons and companies below one record, up to seven each. */
+void sound_crowd(declaration *d);
+
 /* Whether records of this kind are in order by a key. */
 int has_key(unsigned kind);
 
