@@ -100,10 +100,10 @@ unfolding every value_after
 read_on {m} {s} n [] ds h k e =
     let p : n ≡ m = omega arith in
     rw (append-nil s, p) ds
-read_on {v} {s} n (b ∷ t) ds h k e =
+read_on {m} {v} {s} n (b ∷ t) ds h k e =
     let d = and_left (is_digit b) (every is_digit t) k in
     let ds' = one_more ds b d refl (omega arith) in
-    rw (← append_snoc s b t) (read_on n t ds' (omega arith) (and_right (is_digit b) (every is_digit t) k) (omega arith))
+    rw (← append_snoc s b t) (read_on {m = suc m} n t ds' (omega arith) (and_right (is_digit b) (every is_digit t) k) (omega arith))
 
 read : (n : ℕ) (s : Text) → Proper n s → Digits n (value_of s) s
 unfolding every begins_with value_of value_after

@@ -156,6 +156,7 @@ lines_stay e before (p ∷ ps) m h =
 pub line_read : (e : Edition) (before : List Rec) (ps : List Piece) (i : ℕ) (p : Piece) → Nth ps i p
     → line_at (recs e before ps) (length before + i) ≡ p.body
 unfolding rec_of
+line_read e before [] i p x = elim x [ ]
 line_read e before (q ∷ ps) i p this =
     let at : length before + 1 ≡ suc (length before) = omega arith in
     rw at (lines_stay e (rec_of e before q ∷ before) ps (suc (length before)) (omega arith) ∙ line_last (rec_of e before q) before)

@@ -19,6 +19,8 @@ row_kept : {rs : List Row} {cs : List Text} {n : ℕ} {r : Row} {s : Text} (xs :
 unfolding ask_fields
 row_kept xs name f (this {x = r} {xs = rs}) (this {x = c} {xs = cs}) e x m =
     field_kept f name r c x.0 x.1 m (or_else_left (ask_field f xs name r c) (ask_fields (suc f) xs name rs cs) e)
+row_kept xs name f (this {x = r} {xs = rs}) (next {x = c} {xs = cs} j) e x m = elim j [ ]
+row_kept xs name f (next {x = r} {xs = rs} i) (this {x = c} {xs = cs}) e x m = elim i [ ]
 row_kept xs name f (next {x = r} {xs = rs} i) (next {x = c} {xs = cs} j) e x m =
     row_kept xs name (suc f) i j (or_else_right (ask_field f xs name r c) (ask_fields (suc f) xs name rs cs) e) x m
 

@@ -16,12 +16,12 @@ module _ {A : Type 0} where
   first_broken (r ∷ rs) a n f e =
       ⊎_elim (λ q. later q (first_broken rs a n f (rw q at e))) (λ b. this (b.2 ∙ (rw b.2 at e))) (found_cases (ask r a))
 
-  pub broken_first : {rs : List (Rule A)} {a : A} {n f : ℕ} → FirstBroken a n f rs → first rs a ≡ breaks n f
+  pub broken_first : {a : A} {n f : ℕ} {rs : List (Rule A)} → FirstBroken a n f rs → first rs a ≡ breaks n f
   unfolding first or_else
   broken_first (this e) = rw e
   broken_first (later e b) = rw e (broken_first b)
 
   -- it is given by a rule of the list
-  pub broken_given : {rs : List (Rule A)} {a : A} {n f : ℕ} → FirstBroken a n f rs → (r : Rule A) × (r ∈ rs) × Given a n f r
+  pub broken_given : {a : A} {n f : ℕ} {rs : List (Rule A)} → FirstBroken a n f rs → (r : Rule A) × (r ∈ rs) × Given a n f r
   broken_given {a = a} (this {r = r} e) = (r, it, ask_breaks r a e)
   broken_given (later e b) = let h = broken_given b in (h.0, on h.1, h.2)

@@ -22,6 +22,7 @@ pub data Each {A : Type 0} (P : A → Type 0) : List A → Type 0 where
   ◌also◌ : {x : A} {xs : List A} → P x → Each P xs → Each P (x ∷ xs)
 
 pub of_each : {A : Type 0} {P : A → Type 0} {xs : List A} → Each P xs → (x : A) → x ∈ xs → P x
+of_each none x m = elim m [ ]
 of_each {P} (p also ps) x (Memᴰ.head e) = subst⁻¹ P e p
 of_each (p also ps) x (Memᴰ.tail m) = of_each ps x m
 

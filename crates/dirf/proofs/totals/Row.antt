@@ -140,6 +140,7 @@ module _ (k : ℕ) where
   -- what the row of a field says
   pub at_field : (f : ℕ) (rs : List Row) → amount_rows k f rs ≡ true → {i : ℕ} {r : Row} → Nth rs i r
       → is_amount r.holds ≡ amount_at k (f + i - 1)
+  at_field f [] q m = elim m [ ]
   at_field f (r ∷ rs) q this = let z : f ≡ f + 1 - 1 = omega arith in at_row f r rs q ∙ ap (amount_at k) z
   at_field f (r ∷ rs) q (next {n = i} m) =
       let z : suc f + i - 1 ≡ f + suc i - 1 = omega arith in at_field (suc f) rs (on_row f r rs q) m ∙ ap (amount_at k) z
