@@ -1,4 +1,6 @@
 // The field reader, the places of a line's fields, and the order of keys.
+#![tactic(auto)]
+
 ghost use Rattle.std.specs.Prelude.{◌≡◌, [], ◌∷◌, ◌+◌, ◌≤◌, ◌<◌, min, length, drop, set};
 ghost use Rattle.dirf.specs.Bytes.{if◌then◌else◌, is_in, same as sameText, less as lessText};
 ghost use Rattle.dirf.specs.Kinds.{reimbursements};

@@ -9,8 +9,7 @@ use Rattle.dirf.specs.Kinds.{beneficiaries, kinds_opens}
 use Rattle.dirf.specs.Keys.{by_two_fields, by_one_field, key_fields}
 use Rattle.dirf.proofs.tests.Lists.{outside}
 use Rattle.fields.proofs.Arms.{keys, NoneOf, none_in}
-use Rattle.fields.proofs.key_count.Statement.{statement}
-use Rattle.fields.proofs.key_count.Tie as tie
+use Rattle.fields.proofs.key_count.Goals as goal
 
 abbrev count : ℕ → ℕ
 count k = length (key_fields k)
@@ -27,13 +26,22 @@ uncounted k n =
     λ js all. outside (λ j. some (is_in j) arms) js all k (none_in arms k n) in
     rw (no by_two_fields refl, no by_one_field refl, no beneficiaries refl)
 
-pub key-count-spec : {M : Type 1} → statement M
+pub returns-in-51 : goal.returns-in-51
 unfolding key_fields bytes_opens kinds_opens
-key-count-spec =
-    tie.close
-    (tie.spec
-    (λ c. keys count 2 29 (51 ∷ 55 ∷ 67 ∷ []) refl c.match.keys1)
-    (λ c. keys count 1 5 (66 ∷ 68 ∷ []) refl c.match.keys2)
-    (λ c. keys count 1 6 (49 ∷ 52 ∷ 56 ∷ 60 ∷ 65 ∷ []) refl c.match.keys3)
-    (λ c. keys count 1 20 (44 ∷ 48 ∷ 50 ∷ 54 ∷ 59 ∷ 62 ∷ 64 ∷ []) refl c.match.keys4)
-    (λ c. uncounted c.before.args.k c.match.rest))
+returns-in-51 c = keys count 2 29 (51 ∷ 55 ∷ 67 ∷ []) refl c.in-51.is
+
+pub returns-in-5 : goal.returns-in-5
+unfolding key_fields bytes_opens kinds_opens
+returns-in-5 c = keys count 1 5 (66 ∷ 68 ∷ []) refl c.in-5.is
+
+pub returns-in-6 : goal.returns-in-6
+unfolding key_fields bytes_opens kinds_opens
+returns-in-6 c = keys count 1 6 (49 ∷ 52 ∷ 56 ∷ 60 ∷ 65 ∷ []) refl c.in-6.is
+
+pub returns-in-20 : goal.returns-in-20
+unfolding key_fields bytes_opens kinds_opens
+returns-in-20 c = keys count 1 20 (44 ∷ 48 ∷ 50 ∷ 54 ∷ 59 ∷ 62 ∷ 64 ∷ []) refl c.in-20.is
+
+pub returns-in_default : goal.returns-in_default
+unfolding key_fields bytes_opens kinds_opens
+returns-in_default c = uncounted c.args.k c.in_default.in_default-own.rest

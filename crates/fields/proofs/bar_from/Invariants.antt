@@ -1,0 +1,16 @@
+-- The first bar from `from` on is the first from byte i on: none has been passed.
+use Prim.Native.Nat.{suc, ◌≤◌, ◌+◌, ◌-◌}
+use mathlib.Core.Path.{◌≡◌, ap}
+use native.Mathlib.Omega.{arith}
+use lib.ListN.{length, drop, drop_of_length-le}
+use borrow.Author.Tests.{eq-eqb, ne_eqb}
+use Rattle.fields.specs.Places.{bar_in}
+use Rattle.dirf.specs.Limits.{bar}
+use Rattle.dirf.proofs.tests.Lists.{drop_on}
+use Rattle.fields.proofs.bar_from.Given as goal
+
+abbrev pub invariant-loop-i : goal.invariant-loop-i
+invariant-loop-i l = (l.i ≤ length l.line) × (l.i + bar_in (drop l.i l.line) ≡ l.from + bar_in (drop l.from l.line))
+
+abbrev pub decreases-loop-i : goal.decreases-loop-i
+decreases-loop-i l = length l.line - l.i
