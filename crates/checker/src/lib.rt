@@ -26,7 +26,7 @@ use turn::Entry;
 pub const NUMBERS_AN_ENTRY: usize = 5;
 
 // 0, the last line, 0 on acceptance; else a number, a line and a field; and how many entries the table has.
-#[derive(Drop)]
+#[derive(Clone, Copy)]
 pub struct Answer {
     pub number: u32,
     pub line: u32,

@@ -18,7 +18,7 @@ pub(crate) const DEPTH: usize = 5;
 const OPENING_LINES: u32 = 3;
 
 // The open records, outermost first: how many, their lines and their kinds.
-#[derive(Drop)]
+#[derive(Clone, Copy)]
 pub(crate) struct Path {
     pub(crate) depth: usize,
     pub(crate) lines: [u32; DEPTH],
@@ -26,7 +26,7 @@ pub(crate) struct Path {
 }
 
 // By kind: the parent's line under which it stood last, and where that line of it stands. Nothing here is ever cleared.
-#[derive(Drop)]
+#[derive(Clone, Copy)]
 pub(crate) struct Past {
     pub(crate) under: [u32; KINDS],
     pub(crate) starts: [u32; KINDS],
@@ -34,7 +34,7 @@ pub(crate) struct Past {
 }
 
 // What the past has of one kind.
-#[derive(Drop)]
+#[derive(Clone, Copy)]
 pub(crate) struct Last {
     pub(crate) under: u32,
     pub(crate) start: u32,
@@ -43,7 +43,7 @@ pub(crate) struct Last {
 
 // Lines read, where the next begins, whether the last was FIMDirf, the declarant's kind, and the open records. What is remembered by
 // kind goes beside it, since it is looked at once a line and the state goes through every step.
-#[derive(Drop)]
+#[derive(Clone, Copy)]
 pub(crate) struct State {
     pub(crate) count: u32,
     pub(crate) at: usize,

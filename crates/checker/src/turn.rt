@@ -20,7 +20,7 @@ use rules::Finding;
 const LINES: u32 = 65536;
 
 // An entry of the record table.
-#[derive(Drop)]
+#[derive(Clone, Copy)]
 pub(crate) struct Entry {
     pub(crate) kind: u32,
     pub(crate) start: u32,
@@ -29,7 +29,7 @@ pub(crate) struct Entry {
 }
 
 // A line read as a record: its kind, how many open records stand outside it, its length, and where fields 2 and 3 stand in it.
-#[derive(Drop)]
+#[derive(Clone, Copy)]
 pub(crate) struct Record {
     pub(crate) kind: u32,
     pub(crate) outer: usize,
@@ -41,7 +41,7 @@ pub(crate) struct Record {
 }
 
 // A turn stops with an answer, or has read a record that keeps every rule but 21, 20 and 7.
-#[derive(Drop)]
+#[derive(Clone, Copy)]
 pub(crate) struct Stepped {
     pub(crate) stop: bool,
     pub(crate) answer: Answer,

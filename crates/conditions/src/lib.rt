@@ -1,4 +1,6 @@
 // The conditions among a record's fields, 19, by kind.
+#![tactic(auto)]
+
 ghost use Rattle.std.specs.Prelude.{◌≡◌, [], get_or};
 ghost use Rattle.dirf.specs.Bytes.{same, is_empty};
 ghost use Rattle.dirf.specs.Kinds.{DECPF, PROC};

@@ -11,7 +11,7 @@ const BYTES: usize = 65536;
 const ENTRIES: usize = 3000;
 
 // How reading went: whether a read failed, and how many bytes came.
-#[derive(Drop)]
+#[derive(Clone, Copy)]
 struct Got {
     failed: bool,
     len: usize,

@@ -1,4 +1,6 @@
 // The check digits of a CPF and of a CNPJ: the public modulo 11 rule, over a list of weights.
+#![tactic(auto)]
+
 ghost use Rattle.std.specs.Prelude.{◌≡◌, ◌||◌, ◌≤◌, ◌<◌, ◌+◌, ◌-◌, ◌*◌, length, get_or, drop};
 ghost use Rattle.dirf.specs.Digits.{weighted, check_digit, digit_right, digits_right, right_CPF, right_CNPJ};
 

@@ -1,11 +1,13 @@
 // The two editions that are taken, and which one a file has: line 1, right or wrong, says it.
+#![tactic(auto)]
+
 ghost use Rattle.std.specs.Prelude.{◌≡◌, ◌&&◌, ◌+◌, ◌<◌, eqb, length, get_or};
 ghost use Rattle.dirf.specs.Limits.{CR, LF};
 ghost use Rattle.dirf.specs.Editions.{line1, edition_name_of};
 ghost use Rattle.editions.specs.Editions.{edition_says};
 
 // The edition of 2025, the older one, and no third.
-#[derive(Drop)]
+#[derive(Clone, Copy)]
 pub enum Edition {
     Of2025,
     Of2022,

@@ -13,7 +13,7 @@ ghost use Rattle.fields.specs.Places.{part_of, place_of, scan_of, places_along, 
 pub const MOST_FIELDS: usize = 15;
 
 // Where a field stands in its line.
-#[derive(Drop)]
+#[derive(Clone, Copy)]
 pub struct Place {
     pub there: bool,
     pub start: usize,
@@ -21,7 +21,7 @@ pub struct Place {
 }
 
 // Where the fields of a line stand: how many there are, and the first fifteen's starts and lengths.
-#[derive(Drop)]
+#[derive(Clone, Copy)]
 pub struct Places {
     pub count: usize,
     pub starts: [usize; MOST_FIELDS],
@@ -29,7 +29,7 @@ pub struct Places {
 }
 
 // How many bytes stand before the first CR or LF, or before the end, and where their fields stand.
-#[derive(Drop)]
+#[derive(Clone, Copy)]
 pub struct Scanned {
     pub len: usize,
     pub places: Places,

@@ -1,5 +1,7 @@
 // Which record a line is, by its identifier, in the line itself: its length, its first byte, where several begin alike the third and
 // the last, and then all of it against the one identifier that is left.
+#![tactic(auto)]
+
 ghost use Rattle.std.specs.Prelude.{◌≡◌, ◌<◌, length, get_or};
 ghost use Rattle.dirf.specs.Kinds.{names2025};
 ghost use Rattle.dirf.specs.Edition.{kind_in, kind_of};

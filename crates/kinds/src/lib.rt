@@ -1,4 +1,6 @@
 // What a kind of record is, by its number alone.
+#![tactic(auto)]
+
 ghost use Rattle.std.specs.Prelude.{◌≡◌};
 ghost use Rattle.dirf.specs.Kinds.{is_later, opens_nothing, stands_once};
 ghost use Rattle.dirf.specs.Tree.{block_of, suits as suitsOf};

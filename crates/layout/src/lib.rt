@@ -1,5 +1,7 @@
 // The constant tables of the layout, and what they say of whoever reads them. A constant is built anew by every function that reads
 // it, so each is copied once, by a function of its own, and lent down.
+#![tactic(auto)]
+
 ghost use Rattle.std.specs.Prelude.{◌≡◌, ◌+◌, ◌≤◌, length, replicate};
 ghost use Rattle.std.proofs.lemmas.List.Edits.{sets};
 ghost use Rattle.dirf.specs.Kinds.{DECPF, DECPJ};
@@ -342,7 +344,7 @@ const BELOW_DECPJ: [[u8; COLUMNS]; HOLDERS] = [
 ];
 
 // A row of the field table: five bytes.
-#[derive(Drop)]
+#[derive(Clone, Copy)]
 pub struct Row {
     pub format: u8,
     pub fill: u8,

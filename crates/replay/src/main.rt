@@ -14,21 +14,21 @@ use writer::NumberWritten;
 const NUMBERS: usize = 20003;
 
 // A number out of a case, or none where the case is cut off.
-#[derive(Drop)]
+#[derive(Clone, Copy)]
 struct Number {
     ok: bool,
     value: u64,
 }
 
 // A count within its limit, or none where the case is cut off or goes beyond.
-#[derive(Drop)]
+#[derive(Clone, Copy)]
 struct Count {
     ok: bool,
     len: usize,
 }
 
 // What a search is asked, or none where the case is cut off or goes beyond.
-#[derive(Drop)]
+#[derive(Clone, Copy)]
 struct Question {
     ok: bool,
     len: usize,

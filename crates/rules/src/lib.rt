@@ -1,4 +1,6 @@
 // The rules of a record's fields, 13 to 19 and 26, and the readers of amounts and month counts, which ask the same rules.
+#![tactic(auto)]
+
 ghost use Rattle.std.specs.Prelude.{◌≡◌, true, ◌&&◌, not, [], ◌∷◌, ◌≤◌, ◌^◌, min, length};
 ghost use Rattle.dirf.specs.Bytes.{every, some, is_digit, begins_with, same};
 ghost use Rattle.dirf.specs.Row.{N, variable};
@@ -18,33 +20,33 @@ use fields::Places;
 use layout::Row;
 
 // A number and a field: the first breach of a record's fields, 0 and 0 where there is none.
-#[derive(Drop)]
+#[derive(Clone, Copy)]
 pub struct Finding {
     pub number: u32,
     pub field: u32,
 }
 
 // Centavos and tenths of a month are never taken for each other.
-#[derive(Drop)]
+#[derive(Clone, Copy)]
 pub struct Centavos(pub u64);
 
-#[derive(Drop)]
+#[derive(Clone, Copy)]
 pub struct MonthTenths(pub u64);
 
-#[derive(Drop)]
+#[derive(Clone, Copy)]
 pub enum AmountRead {
     Value(Centavos),
     Refused(u32),
 }
 
-#[derive(Drop)]
+#[derive(Clone, Copy)]
 pub enum MonthRead {
     Value(MonthTenths),
     Refused(u32),
 }
 
 // A number read, or refused with value 0.
-#[derive(Drop)]
+#[derive(Clone, Copy)]
 struct NumberRead {
     number: u32,
     value: u64,

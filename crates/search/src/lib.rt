@@ -1,4 +1,6 @@
 // The search: one CPF under one IDREC, from one beneficiary to the next by the fifth number of their entries.
+#![tactic(auto)]
+
 ghost use Rattle.std.specs.Prelude.{◌≡◌, ◌&&◌, ◌+◌, ◌*◌, ◌≤◌, ◌<◌, take};
 ghost use Rattle.dirf.specs.Bytes.{is_in};
 ghost use Rattle.dirf.specs.Kinds.{companies, is_beneficiary};
@@ -9,7 +11,7 @@ ghost use Rattle.search.specs.Answers.{answer_of, entry_in, key_on};
 use checker::NUMBERS_AN_ENTRY;
 
 // 0, the line of the person found, 0 for none, and how many entries of beneficiaries were looked at; or 27, 0 and 0.
-#[derive(Drop)]
+#[derive(Clone, Copy)]
 pub struct Searched {
     pub number: u32,
     pub line: u32,
@@ -17,7 +19,7 @@ pub struct Searched {
 }
 
 // What the search asks of an entry.
-#[derive(Drop)]
+#[derive(Clone, Copy)]
 struct Entry {
     kind: u32,
     start: u32,

@@ -14,14 +14,14 @@ use editions::Edition;
 use rules::{Centavos, Finding, MonthTenths};
 
 // A number, 0 where it was written, and the count of bytes written.
-#[derive(Drop)]
+#[derive(Clone, Copy)]
 pub struct NumberWritten {
     pub number: u32,
     pub count: usize,
 }
 
 // A number, 0 where the line was written, the field it names, and the count of bytes written.
-#[derive(Drop)]
+#[derive(Clone, Copy)]
 pub struct LineWritten {
     pub number: u32,
     pub field: u32,
