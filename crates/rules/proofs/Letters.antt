@@ -3,9 +3,9 @@ use Prim.Native.Nat.{ℕ, ◌-◌, ◌≤◌, ◌<◌}
 use mathlib.Core.Path.{◌≡◌, refl, sym, ap, ◌∙◌}
 use mathlib.Core.Bool.{Bool, true, false, not, and-true, and-false}
 use mathlib.Core.List.{List, [], ◌∷◌, map}
+use native.Mathlib.Omega.{arith}
 use lib.Dec.{eqb}
 use lib.ListN.{replicate}
-use borrow.Author.Rules.{zero≤}
 use borrow.Author.Tests.{not-true}
 use Rattle.dirf.specs.Bytes.{Text, every, some, is_in, same, bytes_opens}
 use Rattle.dirf.specs.Fields.{valid}
@@ -62,5 +62,5 @@ letter_valid name s h b n =
     one_of_lem s (49 ∷ 50 ∷ 51 ∷ []) refl also one_of_lem s (48 ∷ 49 ∷ 50 ∷ 51 ∷ 52 ∷ 56 ∷ []) refl also none)
     h ((is_in_says h letters).0 e))
     (λ e.
-    let p = within asked (true, true) (letters ∷ words) 0 256 refl zero≤ b (apart h e n) in
+    let p = within asked (true, true) (letters ∷ words) 0 256 refl (omega arith) b (apart h e n) in
     sym (ap (λ x. x.0) p) ∙ ap (λ x. x.1) p)

@@ -1,0 +1,11 @@
+use borrow.Author.Tests.{lt-leb, le-leb}
+use Rattle.dirf.specs.Bytes.{is_digit}
+use Rattle.rules.proofs.is_digit.Goals as goal
+
+pub returns-then-b-lt48 : goal.returns-then-b-lt48
+unfolding is_digit
+returns-then-b-lt48 c = simp (lt-leb _ _ c.if-b-lt48.true)
+
+pub returns : goal.returns
+unfolding is_digit
+returns c = simp (le-leb _ _ c.if-b-lt48.false)
