@@ -1,4 +1,6 @@
 // The check of a file: one turn a line over a state by value.
+#![tactic(auto)]
+
 mod lines;
 mod state;
 mod totals;

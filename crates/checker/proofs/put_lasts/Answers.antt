@@ -1,0 +1,68 @@
+-- From the innermost record above outwards: what is left are those further out.
+use Prim.Native.Nat.{ℕ, zero, suc, ◌-◌, ◌*◌, ◌/◌, ◌≤◌, ◌<◌}
+use mathlib.Core.Path.{◌≡◌, refl, sym, ap, ◌∙◌}
+use mathlib.Core.List.{List}
+use native.Mathlib.Omega.{arith}
+use lib.Dec.{leb}
+use lib.ListN.{length, get_or, length-set}
+use borrow.Author.Tests.{lt-leb}
+use Rattle.dirf.specs.Limits.{numbers_an_entry}
+use Rattle.dirf.proofs.tests.Bools.{if_cases}
+use Rattle.checker.specs.Answers.{put_last, put_lasts}
+use Rattle.checker.proofs.put_lasts.Goals as goal
+
+length-put : (t : List ℕ) (n last : ℕ) → length (put_last t n last) ≡ length t
+unfolding put_last
+length-put t n last =
+    if_cases (λ (s : List ℕ). length s ≡ length t) (leb n (length t / numbers_an_entry))
+    (λ _. length-set t (numbers_an_entry * n - 1) last) (λ _. refl)
+
+-- one of them put
+put_step : (t lines : List ℕ) (i last : ℕ) → 1 ≤ i
+    → put_lasts t lines i last ≡ put_lasts (put_last t (get_or lines (i - 1) 0) last) lines (i - 1) last
+unfolding put_lasts
+put_step t lines zero last one = absurd (omega arith)
+put_step t lines (suc i) last one = let q : suc i - 1 ≡ i = omega arith in rw q
+
+-- where the table holds no entry nothing is put
+put-nothing : (t lines : List ℕ) (i last : ℕ) → length t < numbers_an_entry → ((j : ℕ) → j < i → 1 ≤ get_or lines j 0)
+    → t ≡ put_lasts t lines i last
+unfolding put_lasts put_last
+put-nothing t lines zero last few lined = refl
+put-nothing t lines (suc i) last few lined =
+    let none : length t / numbers_an_entry < get_or lines i 0 = omega (arith, lined i (omega arith)) in
+    rw (lt-leb (get_or lines i 0) (length t / numbers_an_entry) none) (put-nothing t lines i last few (λ j h. lined j (omega arith)))
+
+pub returns-then-table-lt-NUMBERS_AN_ENTRY : goal.returns-then-table-lt-NUMBERS_AN_ENTRY
+unfolding put_lasts
+returns-then-table-lt-NUMBERS_AN_ENTRY c = (omega arith, refl)
+
+pub offset_bounds-lines-i : goal.offset_bounds-lines-i
+unfolding put_lasts
+offset_bounds-lines-i c = omega (arith, c.requires.0)
+
+pub bounds-lines-i : goal.bounds-lines-i
+unfolding put_lasts
+bounds-lines-i c = c.requires.1 _ (omega arith)
+
+pub loop-i-smaller : goal.loop-i-smaller
+unfolding put_lasts
+loop-i-smaller c =
+    let l = c.loop-i in
+    let a = c.args in
+    let put : c.put_last.new.0 ≡ put_last l.table (get_or a.lines (l.i - 1) 0) a.own = c.put_last.ensures in (
+      (omega arith, ap length put ∙ length-put l.table (get_or a.lines (l.i - 1) 0) a.own ∙ l.invariant.0.1),
+      l.invariant.1 ∙ put_step l.table a.lines l.i a.own (omega arith) ∙ ap (λ t. put_lasts t a.lines (l.i - 1) a.own) (sym put),
+    )
+
+pub loop-i-preserved : goal.loop-i-preserved
+unfolding put_lasts
+loop-i-preserved c = c.loop-i.invariant.0.1
+
+pub returns : goal.returns
+unfolding put_lasts
+returns c =
+    let l = c.loop-i in
+    let a = c.args in
+    let none : l.i ≡ 0 = omega arith in
+    sym (l.invariant.1 ∙ ap (λ i. put_lasts l.table a.lines i a.own) none)

@@ -1,0 +1,14 @@
+-- The answer is the answer for the open records down to the i-th.
+use Prim.Native.Nat.{suc, ◌-◌, ◌≤◌}
+use mathlib.Core.Path.{◌≡◌, refl, sym, ap, ◌∙◌}
+use native.Mathlib.Omega.{arith}
+use borrow.Author.Rules.{rules}
+use Rattle.dirf.specs.Theorems.Belongs.{deepest}
+use Rattle.checker.specs.State.{held_in}
+use Rattle.checker.proofs.state.held_in.Given as goal
+
+abbrev pub invariant-loop-i : goal.invariant-loop-i
+invariant-loop-i l = (l.i ≤ deepest) × (held_in l.below l.declarant l.kinds l.k l.depth ≡ held_in l.below l.declarant l.kinds l.k l.i)
+
+abbrev pub decreases-loop-i : goal.decreases-loop-i
+decreases-loop-i l = l.i

@@ -1,0 +1,22 @@
+-- The kind by the identifier, the place by the kind.
+use Prim.Native.Nat.{◌<◌}
+use mathlib.Core.Path.{sym, subst}
+use borrow.Author.Rules.{rules}
+use Rattle.kinds.specs.Kinds.{kinds}
+use Rattle.layout.proofs.Laws.{kind_small}
+use Rattle.layout.proofs.Editions.{laid_out_lem}
+use Rattle.checker.specs.Turn.{record_of}
+use Rattle.checker.proofs.turn.record_of.Goals as goal
+
+pub held_at-requires : goal.held_at-requires
+unfolding record_of
+held_at-requires c = c.requires
+
+pub returns : goal.returns
+unfolding record_of
+returns c =
+    let h = c.held_at.ensures in
+    let k = c.kind_of-k.ensures in (
+      simp (h.0, k, c.field.ensures.0),
+      (subst (λ x. x < kinds) (sym k) (kind_small _ (laid_out_lem _) _), h.1),
+    )

@@ -1,0 +1,6 @@
+-- A turn that stops with a refusal.
+use borrow.Author.Rules.{rules}
+use Rattle.checker.proofs.turn.refuse.Goals as goal
+
+pub returns : goal.returns
+returns c = simp (c.stop.ensures, c.refused.ensures)

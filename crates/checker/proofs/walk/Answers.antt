@@ -1,0 +1,273 @@
+-- The loop, for the edition that it is told and that the tables say.
+use Prim.Native.Nat.{suc, ◌-◌}
+use mathlib.Core.Path.{◌≡◌, ap, ◌∙◌}
+use native.Mathlib.Omega.{arith}
+use lib.ListN.{length}
+use borrow.Author.Rules.{rules}
+use Rattle.dirf.specs.Limits.{lines_limit}
+use Rattle.dirf.specs.Check.{entry_numbers}
+use Rattle.dirf.specs.Rules.{keeps}
+use Rattle.editions.specs.Editions.{edition_said}
+use Rattle.rules.proofs.Laws.{finding_says}
+use Rattle.checker.specs.State.{last_in, state_after, past_after, Near}
+use Rattle.checker.specs.Turn.{Fits, looked_found, entry_of}
+use Rattle.checker.specs.declared.state.State.{State}
+use Rattle.checker.proofs.turn.Stops.{looked_numbered, keeps_all}
+use Rattle.checker.proofs.Reading.{Goes, On, Step, near}
+use Rattle.checker.proofs.Held.{Held, held_start, as_lent, same_length, same_totals, answered, turn_step, held_lines, addable}
+use Rattle.checker.proofs.Held.{held_next}
+use Rattle.checker.proofs.Lent.{totals_length}
+use Rattle.checker.proofs.walk.Goals as goal
+
+pub start-st-requires : goal.start-st-requires
+unfolding entry_numbers state_after
+start-st-requires c =
+    held_start _ c.requires.sound
+    c.clear.ensures c.??start.ensures c.??nothing.ensures
+
+pub nothing-past-requires : goal.nothing-past-requires
+unfolding entry_numbers state_after
+nothing-past-requires c =
+    let close : Near c.??loop.st = near c.??loop.invariant.reading in
+    close
+
+pub loop-e-init : goal.loop-e-init
+unfolding entry_numbers state_after
+loop-e-init c =
+    let long : length c.??loop.table ≡ length c.args.table.now = same_length c.??loop.invariant in
+    long
+
+pub turn-s-requires : goal.turn-s-requires
+unfolding entry_numbers state_after
+turn-s-requires c =
+    let long-totals : length c.loop-e.totals ≡ length c.args.totals.now = same_totals c.loop-e.invariant ∙ ap length c.clear.ensures ∙ totals_length _ _ in
+    long-totals
+
+pub returns-then-s : goal.returns-then-s
+returns-then-s c =
+    let stepped : Step c.loop-e.invariant.reading c.turn-s.result = turn_step c.loop-e.invariant c.requires c.turn-s.result c.turn-s.ensures in
+    as_lent c.clear.ensures
+    (answered c.loop-e.invariant _ (stepped.stops c.if-s.true))
+
+pub overflow_cast-i : goal.overflow_cast-i
+unfolding entry_numbers state_after
+overflow_cast-i c =
+    let stepped : Step c.loop-e.invariant.reading c.turn-s.result = turn_step c.loop-e.invariant c.requires c.turn-s.result c.turn-s.ensures in
+    let on : On c.loop-e.invariant.reading c.turn-s.result.read = stepped.goes c.if-s.false in
+    let fits : Fits c.loop-e.st c.turn-s.result.read = on.ranges in
+    omega (arith, fits.kind)
+
+pub offset_bounds-past-i : goal.offset_bounds-past-i
+unfolding entry_numbers state_after
+offset_bounds-past-i c =
+    let stepped : Step c.loop-e.invariant.reading c.turn-s.result = turn_step c.loop-e.invariant c.requires c.turn-s.result c.turn-s.ensures in
+    let on : On c.loop-e.invariant.reading c.turn-s.result.read = stepped.goes c.if-s.false in
+    let fits : Fits c.loop-e.st c.turn-s.result.read = on.ranges in
+    omega (arith, fits.kind)
+
+pub bounds-past-i : goal.bounds-past-i
+unfolding entry_numbers state_after
+bounds-past-i c =
+    let stepped : Step c.loop-e.invariant.reading c.turn-s.result = turn_step c.loop-e.invariant c.requires c.turn-s.result c.turn-s.ensures in
+    let on : On c.loop-e.invariant.reading c.turn-s.result.read = stepped.goes c.if-s.false in
+    let fits : Fits c.loop-e.st c.turn-s.result.read = on.ranges in
+    omega (arith, fits.kind)
+
+pub offset_bounds-past-i-in-loop-e : goal.offset_bounds-past-i-in-loop-e
+unfolding entry_numbers state_after
+offset_bounds-past-i-in-loop-e c =
+    let stepped : Step c.loop-e.invariant.reading c.turn-s.result = turn_step c.loop-e.invariant c.requires c.turn-s.result c.turn-s.ensures in
+    let on : On c.loop-e.invariant.reading c.turn-s.result.read = stepped.goes c.if-s.false in
+    let fits : Fits c.loop-e.st c.turn-s.result.read = on.ranges in
+    omega (arith, fits.kind)
+
+pub bounds-past-i-in-loop-e : goal.bounds-past-i-in-loop-e
+unfolding entry_numbers state_after
+bounds-past-i-in-loop-e c =
+    let stepped : Step c.loop-e.invariant.reading c.turn-s.result = turn_step c.loop-e.invariant c.requires c.turn-s.result c.turn-s.ensures in
+    let on : On c.loop-e.invariant.reading c.turn-s.result.read = stepped.goes c.if-s.false in
+    let fits : Fits c.loop-e.st c.turn-s.result.read = on.ranges in
+    omega (arith, fits.kind)
+
+pub offset_bounds-past-i-in-loop-e-2 : goal.offset_bounds-past-i-in-loop-e-2
+unfolding entry_numbers state_after
+offset_bounds-past-i-in-loop-e-2 c =
+    let stepped : Step c.loop-e.invariant.reading c.turn-s.result = turn_step c.loop-e.invariant c.requires c.turn-s.result c.turn-s.ensures in
+    let on : On c.loop-e.invariant.reading c.turn-s.result.read = stepped.goes c.if-s.false in
+    let fits : Fits c.loop-e.st c.turn-s.result.read = on.ranges in
+    fits.outer
+
+pub bounds-past-i-in-loop-e-2 : goal.bounds-past-i-in-loop-e-2
+unfolding entry_numbers state_after
+bounds-past-i-in-loop-e-2 c =
+    let close : Near c.loop-e.st = near c.loop-e.invariant.reading in
+    close.few
+
+pub looked-f-requires : goal.looked-f-requires
+unfolding entry_numbers state_after
+looked-f-requires c =
+    let long : length c.loop-e.table ≡ length c.args.table.now = same_length c.loop-e.invariant in
+    long
+
+pub refused-requires : goal.refused-requires
+unfolding entry_numbers state_after
+refused-requires c =
+    let long-totals : length c.loop-e.totals ≡ length c.args.totals.now = same_totals c.loop-e.invariant ∙ ap length c.clear.ensures ∙ totals_length _ _ in
+    long-totals
+
+pub returns-then-f-ne0 : goal.returns-then-f-ne0
+unfolding last_in
+returns-then-f-ne0 c =
+    let stepped : Step c.loop-e.invariant.reading c.turn-s.result = turn_step c.loop-e.invariant c.requires c.turn-s.result c.turn-s.ensures in
+    let on : On c.loop-e.invariant.reading c.turn-s.result.read = stepped.goes c.if-s.false in
+    let q = finding_says _ c.looked-f.ensures c.if-f-ne0.true in
+    rw c.refused.ensures
+    (as_lent c.clear.ensures (answered c.loop-e.inv _ (on.refuses _ _ q)))
+
+pub overflow_cast-st : goal.overflow_cast-st
+unfolding entry_numbers state_after
+overflow_cast-st c =
+    let long : length c.loop-e.table ≡ length c.args.table.now = same_length c.loop-e.invariant in
+    long
+
+pub refused-requires-then-room-st : goal.refused-requires-then-room-st
+unfolding entry_numbers state_after
+refused-requires-then-room-st c =
+    let long-totals : length c.loop-e.totals ≡ length c.args.totals.now = same_totals c.loop-e.invariant ∙ ap length c.clear.ensures ∙ totals_length _ _ in
+    long-totals
+
+pub returns-then-room-st : goal.returns-then-room-st
+unfolding last_in
+returns-then-room-st c =
+    let stepped : Step c.loop-e.invariant.reading c.turn-s.result = turn_step c.loop-e.invariant c.requires c.turn-s.result c.turn-s.ensures in
+    let on : On c.loop-e.invariant.reading c.turn-s.result.read = stepped.goes c.if-s.false in
+    let kept : let l = c.loop-e in let r = c.turn-s.result.read in looked_found c.args.file.now l.st r (last_in l.past r.kind) ≡ keeps = keeps_all _ c.looked-f.ensures (looked_numbered _ _ _ _) c.if-f-ne0.false in
+    rw c.refused-then-room-st.ensures
+    (as_lent c.clear.ensures
+    (answered c.loop-e.inv _ (on.full kept c.if-room-st.true)))
+
+pub entry_of-entry-requires : goal.entry_of-entry-requires
+unfolding entry_numbers state_after
+entry_of-entry-requires c =
+    let stepped : Step c.loop-e.invariant.reading c.turn-s.result = turn_step c.loop-e.invariant c.requires c.turn-s.result c.turn-s.ensures in
+    let on : On c.loop-e.invariant.reading c.turn-s.result.read = stepped.goes c.if-s.false in
+    let fits : Fits c.loop-e.st c.turn-s.result.read = on.ranges in
+    fits
+
+pub overflow_add-own : goal.overflow_add-own
+unfolding entry_numbers state_after
+overflow_add-own c =
+    let close : Near c.loop-e.st = near c.loop-e.invariant.reading in
+    omega (arith, close.few)
+
+pub put_entry-requires : goal.put_entry-requires
+unfolding entry_numbers state_after
+put_entry-requires c =
+    let close : Near c.loop-e.st = near c.loop-e.invariant.reading in
+    (close.few, rw c.entry_numbers-row.ensures)
+
+pub put_lasts-requires : goal.put_lasts-requires
+unfolding entry_numbers state_after last_in
+put_lasts-requires c =
+    let stepped : Step c.loop-e.invariant.reading c.turn-s.result = turn_step c.loop-e.invariant c.requires c.turn-s.result c.turn-s.ensures in
+    let on : On c.loop-e.invariant.reading c.turn-s.result.read = stepped.goes c.if-s.false in
+    let fits : Fits c.loop-e.st c.turn-s.result.read = on.ranges in
+    let kept : let l = c.loop-e in let r = c.turn-s.result.read in looked_found c.args.file.now l.st r (last_in l.past r.kind) ≡ keeps = keeps_all _ c.looked-f.ensures (looked_numbered _ _ _ _) c.if-f-ne0.false in
+    let goes : Goes c.loop-e.inv.reading c.turn-s.result.read = on.goes kept c.if-room-st.false in
+    (fits.outer, held_lines c.loop-e.inv c.turn-s.result.read goes)
+
+pub offset_bounds-past-i-in-loop-e-3 : goal.offset_bounds-past-i-in-loop-e-3
+unfolding entry_numbers state_after
+offset_bounds-past-i-in-loop-e-3 c =
+    let stepped : Step c.loop-e.invariant.reading c.turn-s.result = turn_step c.loop-e.invariant c.requires c.turn-s.result c.turn-s.ensures in
+    let on : On c.loop-e.invariant.reading c.turn-s.result.read = stepped.goes c.if-s.false in
+    let fits : Fits c.loop-e.st c.turn-s.result.read = on.ranges in
+    omega (arith, fits.kind)
+
+pub bounds-past-i-in-loop-e-3 : goal.bounds-past-i-in-loop-e-3
+unfolding entry_numbers state_after
+bounds-past-i-in-loop-e-3 c =
+    let stepped : Step c.loop-e.invariant.reading c.turn-s.result = turn_step c.loop-e.invariant c.requires c.turn-s.result c.turn-s.ensures in
+    let on : On c.loop-e.invariant.reading c.turn-s.result.read = stepped.goes c.if-s.false in
+    let fits : Fits c.loop-e.st c.turn-s.result.read = on.ranges in
+    omega (arith, fits.kind)
+
+pub offset_bounds-past-i-in-loop-e-4 : goal.offset_bounds-past-i-in-loop-e-4
+unfolding entry_numbers state_after
+offset_bounds-past-i-in-loop-e-4 c =
+    let stepped : Step c.loop-e.invariant.reading c.turn-s.result = turn_step c.loop-e.invariant c.requires c.turn-s.result c.turn-s.ensures in
+    let on : On c.loop-e.invariant.reading c.turn-s.result.read = stepped.goes c.if-s.false in
+    let fits : Fits c.loop-e.st c.turn-s.result.read = on.ranges in
+    omega (arith, fits.kind)
+
+pub bounds-past-i-in-loop-e-4 : goal.bounds-past-i-in-loop-e-4
+unfolding entry_numbers state_after
+bounds-past-i-in-loop-e-4 c =
+    let stepped : Step c.loop-e.invariant.reading c.turn-s.result = turn_step c.loop-e.invariant c.requires c.turn-s.result c.turn-s.ensures in
+    let on : On c.loop-e.invariant.reading c.turn-s.result.read = stepped.goes c.if-s.false in
+    let fits : Fits c.loop-e.st c.turn-s.result.read = on.ranges in
+    omega (arith, fits.kind)
+
+pub offset_bounds-past-i-in-loop-e-5 : goal.offset_bounds-past-i-in-loop-e-5
+unfolding entry_numbers state_after
+offset_bounds-past-i-in-loop-e-5 c =
+    let stepped : Step c.loop-e.invariant.reading c.turn-s.result = turn_step c.loop-e.invariant c.requires c.turn-s.result c.turn-s.ensures in
+    let on : On c.loop-e.invariant.reading c.turn-s.result.read = stepped.goes c.if-s.false in
+    let fits : Fits c.loop-e.st c.turn-s.result.read = on.ranges in
+    omega (arith, fits.kind)
+
+pub bounds-past-i-in-loop-e-5 : goal.bounds-past-i-in-loop-e-5
+unfolding entry_numbers state_after
+bounds-past-i-in-loop-e-5 c =
+    let stepped : Step c.loop-e.invariant.reading c.turn-s.result = turn_step c.loop-e.invariant c.requires c.turn-s.result c.turn-s.ensures in
+    let on : On c.loop-e.invariant.reading c.turn-s.result.read = stepped.goes c.if-s.false in
+    let fits : Fits c.loop-e.st c.turn-s.result.read = on.ranges in
+    omega (arith, fits.kind)
+
+pub add_record-requires : goal.add_record-requires
+unfolding entry_numbers state_after last_in
+add_record-requires c =
+    let stepped : Step c.loop-e.invariant.reading c.turn-s.result = turn_step c.loop-e.invariant c.requires c.turn-s.result c.turn-s.ensures in
+    let on : On c.loop-e.invariant.reading c.turn-s.result.read = stepped.goes c.if-s.false in
+    let kept : let l = c.loop-e in let r = c.turn-s.result.read in looked_found c.args.file.now l.st r (last_in l.past r.kind) ≡ keeps = keeps_all _ c.looked-f.ensures (looked_numbered _ _ _ _) c.if-f-ne0.false in
+    let goes : Goes c.loop-e.inv.reading c.turn-s.result.read = on.goes kept c.if-room-st.false in
+    let fits : Fits c.loop-e.st c.turn-s.result.read = on.ranges in
+    addable c.loop-e.inv c.turn-s.result.read goes fits
+
+pub state_after-st-requires : goal.state_after-st-requires
+unfolding entry_numbers state_after
+state_after-st-requires c =
+    let stepped : Step c.loop-e.invariant.reading c.turn-s.result = turn_step c.loop-e.invariant c.requires c.turn-s.result c.turn-s.ensures in
+    let on : On c.loop-e.invariant.reading c.turn-s.result.read = stepped.goes c.if-s.false in
+    let fits : Fits c.loop-e.st c.turn-s.result.read = on.ranges in
+    let f = fits in (f.outer, (f.safe, f.short))
+
+pub loop-e-smaller : goal.loop-e-smaller
+unfolding entry_numbers state_after
+loop-e-smaller c =
+    let stepped : Step c.loop-e.invariant.reading c.turn-s.result = turn_step c.loop-e.invariant c.requires c.turn-s.result c.turn-s.ensures in
+    let on : On c.loop-e.invariant.reading c.turn-s.result.read = stepped.goes c.if-s.false in
+    let fits : Fits c.loop-e.st c.turn-s.result.read = on.ranges in
+    omega (
+      arith,
+      fits.safe.fewer,
+      ap (λ (x : State). x.count) c.state_after-st.ensures,
+    )
+
+pub loop-e-preserved : goal.loop-e-preserved
+unfolding entry_of past_after last_in
+loop-e-preserved c =
+    let stepped : Step c.loop-e.invariant.reading c.turn-s.result = turn_step c.loop-e.invariant c.requires c.turn-s.result c.turn-s.ensures in
+    let on : On c.loop-e.invariant.reading c.turn-s.result.read = stepped.goes c.if-s.false in
+    let kept : let l = c.loop-e in let r = c.turn-s.result.read in looked_found c.args.file.now l.st r (last_in l.past r.kind) ≡ keeps = keeps_all _ c.looked-f.ensures (looked_numbered _ _ _ _) c.if-f-ne0.false in
+    let goes : Goes c.loop-e.inv.reading c.turn-s.result.read = on.goes kept c.if-room-st.false in
+    let fits : Fits c.loop-e.st c.turn-s.result.read = on.ranges in
+    rw (
+      c.state_after-st.ensures,
+      c.add_record.ensures,
+      c.put_lasts.ensures,
+      c.put_entry.ensures,
+      c.entry_numbers-row.ensures,
+      c.entry_of-entry.ensures,
+    )
+    (held_next c.loop-e.inv c.turn-s.result.read goes fits)

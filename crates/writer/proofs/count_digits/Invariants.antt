@@ -1,0 +1,15 @@
+-- The digits counted so far, and those of what is left.
+use Prim.Native.Nat.{ℕ, ◌+◌, ◌≤◌}
+use mathlib.Core.Path.{◌≡◌, ap, ◌∙◌}
+use native.Mathlib.Omega.{arith}
+use lib.ListN.{length}
+use Rattle.dirf.specs.Numbers.{decimal}
+use Rattle.dirf.proofs.back.NumbersBack.{nothing_written}
+use Rattle.writer.proofs.Digits.{count_on, count_most}
+use Rattle.writer.proofs.count_digits.Given as goal
+
+abbrev pub invariant-loop-x : goal.invariant-loop-x
+invariant-loop-x l = (l.x ≤ l.v) × (l.n + length (decimal 20 l.x) ≡ length (decimal 20 l.v))
+
+abbrev pub decreases-loop-x : goal.decreases-loop-x
+decreases-loop-x l = l.x

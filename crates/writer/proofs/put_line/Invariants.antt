@@ -1,0 +1,22 @@
+-- What is left of the line goes where the last field ended.
+use Prim.Native.Nat.{◌+◌, ◌-◌, ◌≤◌}
+use mathlib.Core.Path.{◌≡◌, refl, sym, ap, ◌∙◌}
+use mathlib.Core.List.{[], ◌∷◌, ◌++◌}
+use native.Mathlib.Numerals.{add-one}
+use native.Mathlib.Omega.{arith}
+use lib.ListN.{length, get_or, drop, length-set}
+use lib.Seq.{sets, length-sets}
+use Rattle.dirf.specs.Limits.{bar}
+use Rattle.dirf.specs.LineWriter.{cut, sum, line_of}
+use Rattle.writer.proofs.Stores.{rest, rest_end, rest_sum, rest_length, rest_two, field_put}
+use Rattle.writer.proofs.put_line.Given as goal
+
+abbrev pub invariant-loop-i : goal.invariant-loop-i
+invariant-loop-i l =
+    ((l.i ≤ length l.lengths) × (l.from + sum (drop l.i l.lengths) ≡ length l.contents))
+    × ((length l.out ≡ length l.initial.out)
+    × ((l.at + length (rest l.lengths l.contents l.i l.from) ≡ length (line_of (cut l.lengths l.contents)))
+    × (sets l.initial.out 0 (line_of (cut l.lengths l.contents)) ≡ sets l.out l.at (rest l.lengths l.contents l.i l.from))))
+
+abbrev pub decreases-loop-i : goal.decreases-loop-i
+decreases-loop-i l = length l.lengths - l.i
