@@ -136,7 +136,7 @@ module _ (t : List ℕ) where
     held_length = long f (take m es) (omega (arith, length-take m es))
 
   -- a line becomes the last one of each of the open records above it
-  pub put_above : (f g : ℕ → ℕ) (es : List Entry) (v : ℕ) (lines kinds : List ℕ) {before : List Rec} {k l : ℕ} {up : List Open}
+  pub put_above : {before : List Rec} (f g : ℕ → ℕ) (es : List Entry) (v : ℕ) (lines kinds : List ℕ) {k l : ℕ} {up : List Open}
       → OpenRecords before k l up → length before ≤ length es → Stack lines kinds up
       → ((j : ℕ) → 1 ≤ j → j ≤ length es → g j ≡ (if is_in j (map (λ o. o.number) up) then v else f j))
       → put_lasts (with_numbers (numbers_from f 1 (take m es)) t) lines (length up) v ≡ with_numbers (numbers_from g 1 (take m es)) t

@@ -1,6 +1,5 @@
 -- The check with totals, of which none is lent.
-use borrow.Author.Rules.{rules}
 use Rattle.checker.proofs.check_room.Goals as goal
 
 pub returns : goal.returns
-returns c = c.room_totals.ensures.0
+returns c = c.room_totals.ensures.answer

@@ -15,20 +15,8 @@ own : {n : EditionName} {file : Text} {room : ℕ} {before after first last : Li
 unfolding edition_of
 own {n} {file} {room} {before} {after} {first} {last} {r} e = subst (λ n. Judged (edition_named n) file room before after first last r) e
 
-pub edition_of-e-requires : goal.edition_of-e-requires
-edition_of-e-requires c = judged_length c.??walk-pf.ensures
-
-pub third_kind-requires : goal.third_kind-requires
-third_kind-requires c = judged_totals c.??walk-pf.ensures
-
-pub walk_pf-requires : goal.walk_pf-requires
-walk_pf-requires c = own c.edition_of-e.ensures c.??walk-pf.ensures
-
 pub returns-then-third_kind-eq3 : goal.returns-then-third_kind-eq3
-returns-then-third_kind-eq3 c = judged_length c.??walk-pj.ensures
-
-pub walk_pj-requires : goal.walk_pj-requires
-walk_pj-requires c = judged_totals c.??walk-pj.ensures
+returns-then-third_kind-eq3 c = own c.edition_of-e.ensures c.walk_pf.ensures
 
 pub returns : goal.returns
 returns c = own c.edition_of-e.ensures c.walk_pj.ensures

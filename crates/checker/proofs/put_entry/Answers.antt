@@ -5,13 +5,9 @@ use borrow.Author.Tests.{lt-ltb, le-ltb}
 use Rattle.checker.specs.Answers.{put_entry}
 use Rattle.checker.proofs.put_entry.Goals as goal
 
-pub overflow_mul-n : goal.overflow_mul-n
-unfolding put_entry
-overflow_mul-n c = omega (arith, c.requires.1)
-
 pub put_numbers-requires : goal.put_numbers-requires
 unfolding put_entry
-put_numbers-requires c = simp (c.??put-numbers.ensures, length-sets)
+put_numbers-requires c = omega (arith, c.requires.1)
 
 pub returns-then-n-table : goal.returns-then-n-table
 unfolding put_entry

@@ -13,10 +13,6 @@ pub offset_bounds-table-n : goal.offset_bounds-table-n
 unfolding put_last
 offset_bounds-table-n c = omega (arith, c.requires)
 
-pub bounds-table-n : goal.bounds-table-n
-unfolding put_last
-bounds-table-n c = simp length-set
-
 pub returns-then-n-table : goal.returns-then-n-table
 unfolding put_last
 returns-then-n-table c = simp (le-leb _ _ c.if-n-table.true)

@@ -35,29 +35,29 @@ put-nothing t lines (suc i) last few lined =
 
 pub returns-then-table-lt-NUMBERS_AN_ENTRY : goal.returns-then-table-lt-NUMBERS_AN_ENTRY
 unfolding put_lasts
-returns-then-table-lt-NUMBERS_AN_ENTRY c = (omega arith, refl)
+returns-then-table-lt-NUMBERS_AN_ENTRY c = put-nothing _ _ _ _ c.if-table-lt-NUMBERS_AN_ENTRY.true c.requires.1
 
-pub offset_bounds-lines-i : goal.offset_bounds-lines-i
+pub loop-i-init : goal.loop-i-init
 unfolding put_lasts
-offset_bounds-lines-i c = omega (arith, c.requires.0)
+loop-i-init c = (omega arith, refl)
 
 pub bounds-lines-i : goal.bounds-lines-i
 unfolding put_lasts
-bounds-lines-i c = c.requires.1 _ (omega arith)
+bounds-lines-i c = omega (arith, c.requires.0)
 
-pub loop-i-smaller : goal.loop-i-smaller
+pub put_last-requires : goal.put_last-requires
 unfolding put_lasts
-loop-i-smaller c =
-    let l = c.loop-i in
-    let a = c.args in
-    let put : c.put_last.new.0 ≡ put_last l.table (get_or a.lines (l.i - 1) 0) a.own = c.put_last.ensures in (
-      (omega arith, ap length put ∙ length-put l.table (get_or a.lines (l.i - 1) 0) a.own ∙ l.invariant.0.1),
-      l.invariant.1 ∙ put_step l.table a.lines l.i a.own (omega arith) ∙ ap (λ t. put_lasts t a.lines (l.i - 1) a.own) (sym put),
-    )
+put_last-requires c = c.requires.1 _ (omega arith)
 
 pub loop-i-preserved : goal.loop-i-preserved
 unfolding put_lasts
-loop-i-preserved c = c.loop-i.invariant.0.1
+loop-i-preserved c =
+    let l = c.loop-i in
+    let a = c.args in
+    let put : c.put_last.new.table ≡ put_last l.table (get_or a.lines (l.i - 1) 0) a.own = c.put_last.ensures in (
+      (omega arith, ap length put ∙ length-put l.table (get_or a.lines (l.i - 1) 0) a.own ∙ l.invariant.0.1),
+      l.invariant.1 ∙ put_step l.table a.lines l.i a.own (omega arith) ∙ ap (λ t. put_lasts t a.lines (l.i - 1) a.own) (sym put),
+    )
 
 pub returns : goal.returns
 unfolding put_lasts

@@ -9,17 +9,17 @@ use lib.Seq.{sets, drop-cons}
 use Rattle.checker.proofs.put_numbers.Goals as goal
 
 pub loop-j-init : goal.loop-j-init
-loop-j-init c = omega (arith, c.??well-formed)
+loop-j-init c = (omega arith, rw add-zero)
 
-pub loop-j-smaller : goal.loop-j-smaller
-loop-j-smaller c =
+pub offset_bounds-row-j : goal.offset_bounds-row-j
+offset_bounds-row-j c = omega (arith, c.well_formed)
+
+pub loop-j-preserved : goal.loop-j-preserved
+loop-j-preserved c =
     let l = c.loop-j in
     let a = c.args in
     let n : a.i + (l.j + 1) ≡ suc (a.i + l.j) = omega arith in
     (simp length-set (omega arith), l.invariant.1 ∙ rw (n, drop-cons a.row.now l.j 0 c.loop-j-test.true, add-one))
-
-pub loop-j-preserved : goal.loop-j-preserved
-loop-j-preserved c = c.loop-j.invariant.0.1
 
 pub returns : goal.returns
 returns c = let l = c.loop-j in sym (l.invariant.1 ∙ rw (drop_of_length-le _ c.loop-j-test.false))

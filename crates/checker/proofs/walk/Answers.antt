@@ -19,29 +19,17 @@ use Rattle.checker.proofs.Held.{held_next}
 use Rattle.checker.proofs.Lent.{totals_length}
 use Rattle.checker.proofs.walk.Goals as goal
 
-pub start-st-requires : goal.start-st-requires
-unfolding entry_numbers state_after
-start-st-requires c =
-    held_start _ c.requires.sound
-    c.clear.ensures c.??start.ensures c.??nothing.ensures
-
-pub nothing-past-requires : goal.nothing-past-requires
-unfolding entry_numbers state_after
-nothing-past-requires c =
-    let close : Near c.??loop.st = near c.??loop.invariant.reading in
-    close
-
 pub loop-e-init : goal.loop-e-init
 unfolding entry_numbers state_after
 loop-e-init c =
-    let long : length c.??loop.table ≡ length c.args.table.now = same_length c.??loop.invariant in
-    long
+    held_start _ c.requires.sound
+    c.clear.ensures c.start-st.ensures c.nothing-past.ensures
 
 pub turn-s-requires : goal.turn-s-requires
 unfolding entry_numbers state_after
 turn-s-requires c =
-    let long-totals : length c.loop-e.totals ≡ length c.args.totals.now = same_totals c.loop-e.invariant ∙ ap length c.clear.ensures ∙ totals_length _ _ in
-    long-totals
+    let close : Near c.loop-e.st = near c.loop-e.invariant.reading in
+    close
 
 pub returns-then-s : goal.returns-then-s
 returns-then-s c =
@@ -49,20 +37,12 @@ returns-then-s c =
     as_lent c.clear.ensures
     (answered c.loop-e.invariant _ (stepped.stops c.if-s.true))
 
-pub overflow_cast-i : goal.overflow_cast-i
-unfolding entry_numbers state_after
-overflow_cast-i c =
-    let stepped : Step c.loop-e.invariant.reading c.turn-s.result = turn_step c.loop-e.invariant c.requires c.turn-s.result c.turn-s.ensures in
-    let on : On c.loop-e.invariant.reading c.turn-s.result.read = stepped.goes c.if-s.false in
-    let fits : Fits c.loop-e.st c.turn-s.result.read = on.ranges in
-    omega (arith, fits.kind)
-
 pub offset_bounds-past-i : goal.offset_bounds-past-i
 unfolding entry_numbers state_after
 offset_bounds-past-i c =
     let stepped : Step c.loop-e.invariant.reading c.turn-s.result = turn_step c.loop-e.invariant c.requires c.turn-s.result c.turn-s.ensures in
     let on : On c.loop-e.invariant.reading c.turn-s.result.read = stepped.goes c.if-s.false in
-    let fits : Fits c.loop-e.st c.turn-s.result.read = on.ranges in
+    let fits : Fits c.loop-e.st c.turn-s.result.read = on.fits in
     omega (arith, fits.kind)
 
 pub bounds-past-i : goal.bounds-past-i
@@ -70,7 +50,7 @@ unfolding entry_numbers state_after
 bounds-past-i c =
     let stepped : Step c.loop-e.invariant.reading c.turn-s.result = turn_step c.loop-e.invariant c.requires c.turn-s.result c.turn-s.ensures in
     let on : On c.loop-e.invariant.reading c.turn-s.result.read = stepped.goes c.if-s.false in
-    let fits : Fits c.loop-e.st c.turn-s.result.read = on.ranges in
+    let fits : Fits c.loop-e.st c.turn-s.result.read = on.fits in
     omega (arith, fits.kind)
 
 pub offset_bounds-past-i-in-loop-e : goal.offset_bounds-past-i-in-loop-e
@@ -78,7 +58,7 @@ unfolding entry_numbers state_after
 offset_bounds-past-i-in-loop-e c =
     let stepped : Step c.loop-e.invariant.reading c.turn-s.result = turn_step c.loop-e.invariant c.requires c.turn-s.result c.turn-s.ensures in
     let on : On c.loop-e.invariant.reading c.turn-s.result.read = stepped.goes c.if-s.false in
-    let fits : Fits c.loop-e.st c.turn-s.result.read = on.ranges in
+    let fits : Fits c.loop-e.st c.turn-s.result.read = on.fits in
     omega (arith, fits.kind)
 
 pub bounds-past-i-in-loop-e : goal.bounds-past-i-in-loop-e
@@ -86,7 +66,7 @@ unfolding entry_numbers state_after
 bounds-past-i-in-loop-e c =
     let stepped : Step c.loop-e.invariant.reading c.turn-s.result = turn_step c.loop-e.invariant c.requires c.turn-s.result c.turn-s.ensures in
     let on : On c.loop-e.invariant.reading c.turn-s.result.read = stepped.goes c.if-s.false in
-    let fits : Fits c.loop-e.st c.turn-s.result.read = on.ranges in
+    let fits : Fits c.loop-e.st c.turn-s.result.read = on.fits in
     omega (arith, fits.kind)
 
 pub offset_bounds-past-i-in-loop-e-2 : goal.offset_bounds-past-i-in-loop-e-2
@@ -94,26 +74,30 @@ unfolding entry_numbers state_after
 offset_bounds-past-i-in-loop-e-2 c =
     let stepped : Step c.loop-e.invariant.reading c.turn-s.result = turn_step c.loop-e.invariant c.requires c.turn-s.result c.turn-s.ensures in
     let on : On c.loop-e.invariant.reading c.turn-s.result.read = stepped.goes c.if-s.false in
-    let fits : Fits c.loop-e.st c.turn-s.result.read = on.ranges in
-    fits.outer
+    let fits : Fits c.loop-e.st c.turn-s.result.read = on.fits in
+    omega (arith, fits.kind)
 
 pub bounds-past-i-in-loop-e-2 : goal.bounds-past-i-in-loop-e-2
 unfolding entry_numbers state_after
 bounds-past-i-in-loop-e-2 c =
-    let close : Near c.loop-e.st = near c.loop-e.invariant.reading in
-    close.few
+    let stepped : Step c.loop-e.invariant.reading c.turn-s.result = turn_step c.loop-e.invariant c.requires c.turn-s.result c.turn-s.ensures in
+    let on : On c.loop-e.invariant.reading c.turn-s.result.read = stepped.goes c.if-s.false in
+    let fits : Fits c.loop-e.st c.turn-s.result.read = on.fits in
+    omega (arith, fits.kind)
 
 pub looked-f-requires : goal.looked-f-requires
 unfolding entry_numbers state_after
 looked-f-requires c =
-    let long : length c.loop-e.table ≡ length c.args.table.now = same_length c.loop-e.invariant in
-    long
+    let stepped : Step c.loop-e.invariant.reading c.turn-s.result = turn_step c.loop-e.invariant c.requires c.turn-s.result c.turn-s.ensures in
+    let on : On c.loop-e.invariant.reading c.turn-s.result.read = stepped.goes c.if-s.false in
+    let fits : Fits c.loop-e.st c.turn-s.result.read = on.fits in
+    fits.outer
 
 pub refused-requires : goal.refused-requires
 unfolding entry_numbers state_after
 refused-requires c =
-    let long-totals : length c.loop-e.totals ≡ length c.args.totals.now = same_totals c.loop-e.invariant ∙ ap length c.clear.ensures ∙ totals_length _ _ in
-    long-totals
+    let close : Near c.loop-e.st = near c.loop-e.invariant.reading in
+    close.few
 
 pub returns-then-f-ne0 : goal.returns-then-f-ne0
 unfolding last_in
@@ -122,19 +106,13 @@ returns-then-f-ne0 c =
     let on : On c.loop-e.invariant.reading c.turn-s.result.read = stepped.goes c.if-s.false in
     let q = finding_says _ c.looked-f.ensures c.if-f-ne0.true in
     rw c.refused.ensures
-    (as_lent c.clear.ensures (answered c.loop-e.inv _ (on.refuses _ _ q)))
-
-pub overflow_cast-st : goal.overflow_cast-st
-unfolding entry_numbers state_after
-overflow_cast-st c =
-    let long : length c.loop-e.table ≡ length c.args.table.now = same_length c.loop-e.invariant in
-    long
+    (as_lent c.clear.ensures (answered c.loop-e.invariant _ (on.refuses _ _ q)))
 
 pub refused-requires-then-room-st : goal.refused-requires-then-room-st
 unfolding entry_numbers state_after
 refused-requires-then-room-st c =
-    let long-totals : length c.loop-e.totals ≡ length c.args.totals.now = same_totals c.loop-e.invariant ∙ ap length c.clear.ensures ∙ totals_length _ _ in
-    long-totals
+    let close : Near c.loop-e.st = near c.loop-e.invariant.reading in
+    close.few
 
 pub returns-then-room-st : goal.returns-then-room-st
 unfolding last_in
@@ -144,14 +122,14 @@ returns-then-room-st c =
     let kept : let l = c.loop-e in let r = c.turn-s.result.read in looked_found c.args.file.now l.st r (last_in l.past r.kind) ≡ keeps = keeps_all _ c.looked-f.ensures (looked_numbered _ _ _ _) c.if-f-ne0.false in
     rw c.refused-then-room-st.ensures
     (as_lent c.clear.ensures
-    (answered c.loop-e.inv _ (on.full kept c.if-room-st.true)))
+    (answered c.loop-e.invariant _ (on.full kept c.if-room-st.true)))
 
 pub entry_of-entry-requires : goal.entry_of-entry-requires
 unfolding entry_numbers state_after
 entry_of-entry-requires c =
     let stepped : Step c.loop-e.invariant.reading c.turn-s.result = turn_step c.loop-e.invariant c.requires c.turn-s.result c.turn-s.ensures in
     let on : On c.loop-e.invariant.reading c.turn-s.result.read = stepped.goes c.if-s.false in
-    let fits : Fits c.loop-e.st c.turn-s.result.read = on.ranges in
+    let fits : Fits c.loop-e.st c.turn-s.result.read = on.fits in
     fits
 
 pub overflow_add-own : goal.overflow_add-own
@@ -171,17 +149,17 @@ unfolding entry_numbers state_after last_in
 put_lasts-requires c =
     let stepped : Step c.loop-e.invariant.reading c.turn-s.result = turn_step c.loop-e.invariant c.requires c.turn-s.result c.turn-s.ensures in
     let on : On c.loop-e.invariant.reading c.turn-s.result.read = stepped.goes c.if-s.false in
-    let fits : Fits c.loop-e.st c.turn-s.result.read = on.ranges in
+    let fits : Fits c.loop-e.st c.turn-s.result.read = on.fits in
     let kept : let l = c.loop-e in let r = c.turn-s.result.read in looked_found c.args.file.now l.st r (last_in l.past r.kind) ≡ keeps = keeps_all _ c.looked-f.ensures (looked_numbered _ _ _ _) c.if-f-ne0.false in
-    let goes : Goes c.loop-e.inv.reading c.turn-s.result.read = on.goes kept c.if-room-st.false in
-    (fits.outer, held_lines c.loop-e.inv c.turn-s.result.read goes)
+    let goes : Goes c.loop-e.invariant.reading c.turn-s.result.read = on.goes kept c.if-room-st.false in
+    (fits.outer, held_lines c.loop-e.invariant c.turn-s.result.read goes)
 
 pub offset_bounds-past-i-in-loop-e-3 : goal.offset_bounds-past-i-in-loop-e-3
 unfolding entry_numbers state_after
 offset_bounds-past-i-in-loop-e-3 c =
     let stepped : Step c.loop-e.invariant.reading c.turn-s.result = turn_step c.loop-e.invariant c.requires c.turn-s.result c.turn-s.ensures in
     let on : On c.loop-e.invariant.reading c.turn-s.result.read = stepped.goes c.if-s.false in
-    let fits : Fits c.loop-e.st c.turn-s.result.read = on.ranges in
+    let fits : Fits c.loop-e.st c.turn-s.result.read = on.fits in
     omega (arith, fits.kind)
 
 pub bounds-past-i-in-loop-e-3 : goal.bounds-past-i-in-loop-e-3
@@ -189,7 +167,7 @@ unfolding entry_numbers state_after
 bounds-past-i-in-loop-e-3 c =
     let stepped : Step c.loop-e.invariant.reading c.turn-s.result = turn_step c.loop-e.invariant c.requires c.turn-s.result c.turn-s.ensures in
     let on : On c.loop-e.invariant.reading c.turn-s.result.read = stepped.goes c.if-s.false in
-    let fits : Fits c.loop-e.st c.turn-s.result.read = on.ranges in
+    let fits : Fits c.loop-e.st c.turn-s.result.read = on.fits in
     omega (arith, fits.kind)
 
 pub offset_bounds-past-i-in-loop-e-4 : goal.offset_bounds-past-i-in-loop-e-4
@@ -197,7 +175,7 @@ unfolding entry_numbers state_after
 offset_bounds-past-i-in-loop-e-4 c =
     let stepped : Step c.loop-e.invariant.reading c.turn-s.result = turn_step c.loop-e.invariant c.requires c.turn-s.result c.turn-s.ensures in
     let on : On c.loop-e.invariant.reading c.turn-s.result.read = stepped.goes c.if-s.false in
-    let fits : Fits c.loop-e.st c.turn-s.result.read = on.ranges in
+    let fits : Fits c.loop-e.st c.turn-s.result.read = on.fits in
     omega (arith, fits.kind)
 
 pub bounds-past-i-in-loop-e-4 : goal.bounds-past-i-in-loop-e-4
@@ -205,7 +183,7 @@ unfolding entry_numbers state_after
 bounds-past-i-in-loop-e-4 c =
     let stepped : Step c.loop-e.invariant.reading c.turn-s.result = turn_step c.loop-e.invariant c.requires c.turn-s.result c.turn-s.ensures in
     let on : On c.loop-e.invariant.reading c.turn-s.result.read = stepped.goes c.if-s.false in
-    let fits : Fits c.loop-e.st c.turn-s.result.read = on.ranges in
+    let fits : Fits c.loop-e.st c.turn-s.result.read = on.fits in
     omega (arith, fits.kind)
 
 pub offset_bounds-past-i-in-loop-e-5 : goal.offset_bounds-past-i-in-loop-e-5
@@ -213,7 +191,7 @@ unfolding entry_numbers state_after
 offset_bounds-past-i-in-loop-e-5 c =
     let stepped : Step c.loop-e.invariant.reading c.turn-s.result = turn_step c.loop-e.invariant c.requires c.turn-s.result c.turn-s.ensures in
     let on : On c.loop-e.invariant.reading c.turn-s.result.read = stepped.goes c.if-s.false in
-    let fits : Fits c.loop-e.st c.turn-s.result.read = on.ranges in
+    let fits : Fits c.loop-e.st c.turn-s.result.read = on.fits in
     omega (arith, fits.kind)
 
 pub bounds-past-i-in-loop-e-5 : goal.bounds-past-i-in-loop-e-5
@@ -221,7 +199,7 @@ unfolding entry_numbers state_after
 bounds-past-i-in-loop-e-5 c =
     let stepped : Step c.loop-e.invariant.reading c.turn-s.result = turn_step c.loop-e.invariant c.requires c.turn-s.result c.turn-s.ensures in
     let on : On c.loop-e.invariant.reading c.turn-s.result.read = stepped.goes c.if-s.false in
-    let fits : Fits c.loop-e.st c.turn-s.result.read = on.ranges in
+    let fits : Fits c.loop-e.st c.turn-s.result.read = on.fits in
     omega (arith, fits.kind)
 
 pub add_record-requires : goal.add_record-requires
@@ -230,16 +208,16 @@ add_record-requires c =
     let stepped : Step c.loop-e.invariant.reading c.turn-s.result = turn_step c.loop-e.invariant c.requires c.turn-s.result c.turn-s.ensures in
     let on : On c.loop-e.invariant.reading c.turn-s.result.read = stepped.goes c.if-s.false in
     let kept : let l = c.loop-e in let r = c.turn-s.result.read in looked_found c.args.file.now l.st r (last_in l.past r.kind) ≡ keeps = keeps_all _ c.looked-f.ensures (looked_numbered _ _ _ _) c.if-f-ne0.false in
-    let goes : Goes c.loop-e.inv.reading c.turn-s.result.read = on.goes kept c.if-room-st.false in
-    let fits : Fits c.loop-e.st c.turn-s.result.read = on.ranges in
-    addable c.loop-e.inv c.turn-s.result.read goes fits
+    let goes : Goes c.loop-e.invariant.reading c.turn-s.result.read = on.goes kept c.if-room-st.false in
+    let fits : Fits c.loop-e.st c.turn-s.result.read = on.fits in
+    addable c.loop-e.invariant c.turn-s.result.read goes fits
 
 pub state_after-st-requires : goal.state_after-st-requires
 unfolding entry_numbers state_after
 state_after-st-requires c =
     let stepped : Step c.loop-e.invariant.reading c.turn-s.result = turn_step c.loop-e.invariant c.requires c.turn-s.result c.turn-s.ensures in
     let on : On c.loop-e.invariant.reading c.turn-s.result.read = stepped.goes c.if-s.false in
-    let fits : Fits c.loop-e.st c.turn-s.result.read = on.ranges in
+    let fits : Fits c.loop-e.st c.turn-s.result.read = on.fits in
     let f = fits in (f.outer, (f.safe, f.short))
 
 pub loop-e-smaller : goal.loop-e-smaller
@@ -247,7 +225,7 @@ unfolding entry_numbers state_after
 loop-e-smaller c =
     let stepped : Step c.loop-e.invariant.reading c.turn-s.result = turn_step c.loop-e.invariant c.requires c.turn-s.result c.turn-s.ensures in
     let on : On c.loop-e.invariant.reading c.turn-s.result.read = stepped.goes c.if-s.false in
-    let fits : Fits c.loop-e.st c.turn-s.result.read = on.ranges in
+    let fits : Fits c.loop-e.st c.turn-s.result.read = on.fits in
     omega (
       arith,
       fits.safe.fewer,
@@ -260,8 +238,8 @@ loop-e-preserved c =
     let stepped : Step c.loop-e.invariant.reading c.turn-s.result = turn_step c.loop-e.invariant c.requires c.turn-s.result c.turn-s.ensures in
     let on : On c.loop-e.invariant.reading c.turn-s.result.read = stepped.goes c.if-s.false in
     let kept : let l = c.loop-e in let r = c.turn-s.result.read in looked_found c.args.file.now l.st r (last_in l.past r.kind) ≡ keeps = keeps_all _ c.looked-f.ensures (looked_numbered _ _ _ _) c.if-f-ne0.false in
-    let goes : Goes c.loop-e.inv.reading c.turn-s.result.read = on.goes kept c.if-room-st.false in
-    let fits : Fits c.loop-e.st c.turn-s.result.read = on.ranges in
+    let goes : Goes c.loop-e.invariant.reading c.turn-s.result.read = on.goes kept c.if-room-st.false in
+    let fits : Fits c.loop-e.st c.turn-s.result.read = on.fits in
     rw (
       c.state_after-st.ensures,
       c.add_record.ensures,
@@ -270,4 +248,4 @@ loop-e-preserved c =
       c.entry_numbers-row.ensures,
       c.entry_of-entry.ensures,
     )
-    (held_next c.loop-e.inv c.turn-s.result.read goes fits)
+    (held_next c.loop-e.invariant c.turn-s.result.read goes fits)

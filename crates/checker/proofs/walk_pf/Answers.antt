@@ -8,17 +8,11 @@ use Rattle.checker.proofs.Editions.{say_all}
 use Rattle.checker.proofs.Table.{judged_length, judged_totals}
 use Rattle.checker.proofs.walk_pf.Goals as goal
 
-pub row_table-rows-requires : goal.row_table-rows-requires
-row_table-rows-requires c =
-    let all : let a = c.args in SayAll (edition_said a.e) c.??row-table.result c.??pf-table.result a.file.now = let n = edition_says c.args.e in
-    say_all n _ c.??row-table.ensures (c.??pf-table.ensures ∙ ap (below_table _) (sym c.requires)) in
-    all
-
-pub pf_table-below-requires : goal.pf_table-below-requires
-pf_table-below-requires c = judged_length c.??walk.ensures
-
 pub walk-requires : goal.walk-requires
-walk-requires c = judged_totals c.??walk.ensures
+walk-requires c =
+    let all : let a = c.args in SayAll (edition_said a.e) c.row_table-rows.result c.pf_table-below.result a.file.now = let n = edition_says c.args.e in
+    say_all n _ c.row_table-rows.ensures (c.pf_table-below.ensures ∙ ap (below_table _) (sym c.requires)) in
+    all
 
 pub returns : goal.returns
 returns c = c.walk.ensures

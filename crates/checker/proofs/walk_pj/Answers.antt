@@ -8,17 +8,11 @@ use Rattle.checker.proofs.Editions.{say_all}
 use Rattle.checker.proofs.Table.{judged_length, judged_totals}
 use Rattle.checker.proofs.walk_pj.Goals as goal
 
-pub row_table-rows-requires : goal.row_table-rows-requires
-row_table-rows-requires c =
-    let all : let a = c.args in SayAll (edition_said a.e) c.??row-table.result c.??pj-table.result a.file.now = let n = edition_says c.args.e in
-    say_all n _ c.??row-table.ensures (c.??pj-table.ensures ∙ sym (other_table n _ c.requires)) in
-    all
-
-pub pj_table-below-requires : goal.pj_table-below-requires
-pj_table-below-requires c = judged_length c.??walk.ensures
-
 pub walk-requires : goal.walk-requires
-walk-requires c = judged_totals c.??walk.ensures
+walk-requires c =
+    let all : let a = c.args in SayAll (edition_said a.e) c.row_table-rows.result c.pj_table-below.result a.file.now = let n = edition_says c.args.e in
+    say_all n _ c.row_table-rows.ensures (c.pj_table-below.ensures ∙ sym (other_table n _ c.requires)) in
+    all
 
 pub returns : goal.returns
 returns c = c.walk.ensures

@@ -12,4 +12,4 @@ returns-then-n-gt-LINE_BYTES c = simp (← c.requires, lt-ltb line_limit _ c.if-
 
 pub returns : goal.returns
 unfolding number_at
-returns c = simp (c.??end_of_lem.ensures, c.tail.ensures, ← drop_clean, ← c.requires, le-ltb line_limit _ c.if-n-gt-LINE_BYTES.false)
+returns c = simp (c.end_of.ensures, c.tail.ensures, ← drop_clean, ← c.requires, le-ltb line_limit _ c.if-n-gt-LINE_BYTES.false)

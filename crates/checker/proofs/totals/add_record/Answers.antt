@@ -25,20 +25,6 @@ returns-then-n-eq0 c =
     ap (λ n. sum_of n (from_amounts c.args.r.kind (part_of c.args.file.now c.args.at c.args.r.len))) (sym c.amount_count-n.ensures ∙ c.if-n-eq0.true) in
     sym (ap (add_at t c.args.r.kind) none ∙ add_none t c.args.r.kind)
 
-pub tail-requires : goal.tail-requires
-unfolding line_sum sum_of sum place_of
-tail-requires c =
-    let many : c.amount_count-n.result ≡ amount_count c.args.r.kind = c.amount_count-n.ensures in
-    let cut : c.??tail.result.now ≡ from_amounts c.args.r.kind (part_of c.args.file.now c.args.at c.args.r.len) = let part = c.part-line in
-    let place = c.place_of-start in
-    let first = c.first_amount in
-    let starts : place.result.start ≡ field_start (first_amount c.args.r.kind) part.result.now =
-    ap (λ (p : Place). p.start) place.ensures ∙ ap (λ f. field_start f part.result.now) first.ensures in
-    c.??tail.ensures ∙ ap (λ x. drop x part.result.now) starts ∙ ap (from_amounts c.args.r.kind) part.ensures.0 in
-    let summable : Summable c.amount_count-n.result c.??tail.result.now = subst (λ n. Summable n c.??tail.result.now) (sym many)
-    (subst (Summable (amount_count c.args.r.kind)) (sym cut) c.requires.summable) in
-    summable
-
 pub sum_of-requires : goal.sum_of-requires
 unfolding line_sum sum_of sum place_of
 sum_of-requires c =
@@ -49,12 +35,22 @@ sum_of-requires c =
     let starts : place.result.start ≡ field_start (first_amount c.args.r.kind) part.result.now =
     ap (λ (p : Place). p.start) place.ensures ∙ ap (λ f. field_start f part.result.now) first.ensures in
     c.tail.ensures ∙ ap (λ x. drop x part.result.now) starts ∙ ap (from_amounts c.args.r.kind) part.ensures.0 in
-    let summed : c.??sum_of.result.0 ≡ line_sum c.args.r.kind (part_of c.args.file.now c.args.at c.args.r.len) = c.??sum_of.ensures ∙ ap₂ sum_of many cut in
-    rw summed c.requires.fits
+    let summable : Summable c.amount_count-n.result c.tail.result.now = subst (λ n. Summable n c.tail.result.now) (sym many)
+    (subst (Summable (amount_count c.args.r.kind)) (sym cut) c.requires.summable) in
+    summable
 
 pub add-requires : goal.add-requires
-unfolding line_sum sum_of sum
-add-requires c = ap length c.??add.ensures ∙ add_length _ _ _
+unfolding line_sum sum_of sum place_of
+add-requires c =
+    let many : c.amount_count-n.result ≡ amount_count c.args.r.kind = c.amount_count-n.ensures in
+    let cut : c.tail.result.now ≡ from_amounts c.args.r.kind (part_of c.args.file.now c.args.at c.args.r.len) = let part = c.part-line in
+    let place = c.place_of-start in
+    let first = c.first_amount in
+    let starts : place.result.start ≡ field_start (first_amount c.args.r.kind) part.result.now =
+    ap (λ (p : Place). p.start) place.ensures ∙ ap (λ f. field_start f part.result.now) first.ensures in
+    c.tail.ensures ∙ ap (λ x. drop x part.result.now) starts ∙ ap (from_amounts c.args.r.kind) part.ensures.0 in
+    let summed : c.sum_of.result.0 ≡ line_sum c.args.r.kind (part_of c.args.file.now c.args.at c.args.r.len) = c.sum_of.ensures ∙ ap₂ sum_of many cut in
+    rw summed c.requires.fits
 
 pub returns : goal.returns
 unfolding line_sum sum_of sum place_of

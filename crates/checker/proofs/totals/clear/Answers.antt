@@ -11,36 +11,34 @@ use Rattle.checker.proofs.totals.clear.Goals as goal
 
 pub loop-k-init : goal.loop-k-init
 unfolding put_from totals_in
-loop-k-init c =
-    let long : length c.??loop.totals ≡ length c.args.totals.now = ap length c.??loop.invariant.1 ∙ from_length (λ k. 0) 0 c.??loop.k _ in
-    c.??loop.invariant.1 ∙ put_all (λ k. 0) 0 _ kinds _ (omega (arith, long, c.??if1.true)) c.??loop.invariant.0
+loop-k-init c = (omega arith, refl)
 
 pub returns-then-totals-k : goal.returns-then-totals-k
 unfolding put_from totals_in
-returns-then-totals-k c = omega (arith, c.loop-k.invariant.0)
+returns-then-totals-k c =
+    let long : length c.loop-k.totals ≡ length c.args.totals.now = ap length c.loop-k.invariant.1 ∙ from_length (λ k. 0) 0 c.loop-k.k _ in
+    c.loop-k.invariant.1 ∙ put_all (λ k. 0) 0 _ kinds _ (omega (arith, long, c.if-totals-k.true)) c.loop-k.invariant.0
 
 pub offset_bounds-totals-k : goal.offset_bounds-totals-k
 unfolding put_from totals_in
-offset_bounds-totals-k c = c.if-totals-k.false
+offset_bounds-totals-k c = omega (arith, c.loop-k.invariant.0)
 
 pub bounds-totals-k : goal.bounds-totals-k
 unfolding put_from totals_in
-bounds-totals-k c = omega (arith, c.loop-k.invariant.0)
+bounds-totals-k c = c.if-totals-k.false
 
-pub loop-k-smaller : goal.loop-k-smaller
+pub overflow_add-k : goal.overflow_add-k
 unfolding put_from totals_in
-loop-k-smaller c =
+overflow_add-k c = omega (arith, c.loop-k.invariant.0)
+
+pub loop-k-preserved : goal.loop-k-preserved
+unfolding put_from totals_in
+loop-k-preserved c =
     let long : length c.loop-k.totals ≡ length c.args.totals.now = ap length c.loop-k.invariant.1 ∙ from_length (λ k. 0) 0 c.loop-k.k _ in (
       omega arith,
       ap (λ t. set t c.loop-k.k 0) c.loop-k.invariant.1 ∙ put_next (λ k. 0) 0 c.loop-k.k _ (omega (arith, long, c.if-totals-k.false))
           ∙ ap (λ n. put_from (λ k. 0) 0 n c.args.totals.now) (sym (add-one c.loop-k.k)),
     )
-
-pub loop-k-preserved : goal.loop-k-preserved
-unfolding put_from totals_in
-loop-k-preserved c =
-    let long : length c.loop-k.totals ≡ length c.args.totals.now = ap length c.loop-k.invariant.1 ∙ from_length (λ k. 0) 0 c.loop-k.k _ in
-    long
 
 pub returns : goal.returns
 unfolding put_from totals_in

@@ -10,7 +10,7 @@ use Rattle.checker.proofs.Lent.{from_length, put_next, put_all}
 use Rattle.checker.proofs.totals.clear.Given as goal
 
 abbrev pub invariant-loop-k : goal.invariant-loop-k
-invariant-loop-k l = (l.k ≤ kinds) × (l.totals ≡ put_from (λ l.k. 0) 0 l.k l.initial.totals)
+invariant-loop-k l = (l.k ≤ kinds) × (l.totals ≡ put_from (λ i. 0) 0 l.k l.initial.totals)
 
 abbrev pub decreases-loop-k : goal.decreases-loop-k
 decreases-loop-k l = kinds - l.k

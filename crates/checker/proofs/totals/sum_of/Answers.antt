@@ -10,7 +10,9 @@ pub loop-left-init : goal.loop-left-init
 loop-left-init c = run_start _ _ c.requires
 
 pub bounds-s-i : goal.bounds-s-i
-bounds-s-i c = ??inside
+bounds-s-i c =
+    let inside : c.loop-left.i < length c.args.s.now = run_inside c.loop-left.invariant c.loop-left-test.true in
+    inside
 
 pub overflow_add-i : goal.overflow_add-i
 overflow_add-i c =
