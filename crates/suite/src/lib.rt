@@ -1,4 +1,6 @@
 // The functions that the pay offices' suite calls from C: one number of the answer a call. include/decklesail.h declares them.
+#![tactic(auto)]
+
 ghost use Rattle.std.specs.Prelude.{◌≡◌, cond, get_or};
 ghost use Rattle.dirf.specs.Editions.{edition_name_of, year_of};
 ghost use Rattle.dirf.specs.Check.{answer_to};

@@ -14,8 +14,7 @@ use Rattle.kinds.specs.Kinds.{kinds}
 use Rattle.kinds.proofs.Past.{by_kind, is_in_past}
 use Rattle.checker.specs.Totals.{totals_in}
 use Rattle.checker.proofs.Lent.{totals_length, total_at}
-use Rattle.suite.proofs.decklesail_total.Statement.{statement}
-use Rattle.suite.proofs.decklesail_total.Tie as tie
+use Rattle.suite.proofs.decklesail_total.Goals as goal
 
 past : (k : ℕ) → kinds ≤ k → is_value k ≡ false
 unfolding bytes_opens kinds_opens
@@ -30,15 +29,8 @@ at_place file room k t long =
     let over : length (totals_in (total_of file room) t) ≤ k = omega (arith, long, totals_length (total_of file room) t) in
     get_or-eq_default (totals_in (total_of file room) t) 0 over ∙ sym ((files.totals file).none k (past k h) _))
 
-pub decklesail-total-spec : {M : Type 1} → statement M
-decklesail-total-spec =
-    tie.close
-    (tie.spec
-    (λ c. search rules)
-    (λ c κs. search rules)
-    (λ c. search rules)
-    (λ c κs. search rules)
-    (λ c.
-    let a = c.before.before.before.before.before.before.args in
-    c.total_at.ensures ∙ ap (λ t. get_or t a.kind 0) c.before.before.before.room-totals.ensures.1
-    ∙ at_place a.file.now a.room a.kind _ refl))
+pub returns : goal.returns
+returns c =
+    let a = c.args in
+    c.total_at.ensures ∙ ap (λ t. get_or t a.kind 0) c.room_totals.ensures.totals
+    ∙ at_place a.file.now a.room a.kind _ refl
