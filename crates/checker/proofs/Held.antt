@@ -16,7 +16,6 @@ use Rattle.dirf.specs.Kinds.{is_value}
 use Rattle.dirf.specs.Edition.{Edition}
 use Rattle.dirf.specs.Rules.{first}
 use Rattle.dirf.specs.Tree.{Rec, Open}
-use Rattle.dirf.specs.Order as parts
 use Rattle.dirf.specs.Order.{kind_of_line}
 use Rattle.dirf.specs.Check.{entry_of as entryAfter, table_of}
 use Rattle.dirf.specs.Check.{last_at, verdict, entry_numbers, numbers_from}

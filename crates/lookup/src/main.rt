@@ -1,8 +1,11 @@
 // The help desk's search: a file on standard input, the line of an IDREC and a CPF as words. The file is checked, and the person of that
 // CPF is looked for below that IDREC. Prints the check's number, line and field, then the search's number, line and count.
-ghost use Rattle.std.specs.Prelude.{◌≤◌};
+#![tactic(auto)]
 
-use libc::{STDIN_FILENO, STDOUT_FILENO};
+ghost use Rattle.std.specs.Prelude.{◌≤◌, length};
+
+use std::io;
+use std::rt::Env;
 
 // Files of up to so many bytes, and as many lines as a file may have.
 const BYTES: usize = 4194304;
@@ -40,21 +43,34 @@ fn line_of(word: &[u8]) -> u32 {
     n as u32
 }
 
-fn print(n: u32, end: &[u8]) {
-    io::print_decimal(STDOUT_FILENO, n as u64);
-    io::write_all(STDOUT_FILENO, end);
+// Word i of the command, at the start of the buffer: how many bytes it has; 0 where there is none, or one that is longer than the buffer.
+fn word(rt: &impl Env, i: usize, buf: &mut [u8]) -> usize
+    ensures { result ≤ length buf.new }
+{
+    match rt.arg(i, buf) {
+        Ok(n) => n,
+        Err(_) => 0,
+    }
 }
 
 // The check fills the table, and the search is lent the entries of the lines that were read.
-fn look_up(file: &[u8], table: &mut [u32], line: u32, cpf: &[u8]) {
+fn look_up(
+    rt: &impl Print,
+    file: &[u8],
+    table: &mut [u32],
+    line: u32,
+    cpf: &[u8],
+) -> io::Result<()> {
     let a = checker::check(file, table);
-    print(a.number, b" ");
-    print(a.line, b" ");
-    print(a.field, b"\n");
+    let number = a.number;
+    let at = a.line;
+    let field = a.field;
+    println!(rt; "{number} {at} {field}")?;
     let s = search::search(file, search::entries(table, a.entries), line, cpf);
-    print(s.number, b" ");
-    print(s.line, b" ");
-    print(s.count, b"\n");
+    let number = s.number;
+    let at = s.line;
+    let count = s.count;
+    println!(rt; "{number} {at} {count}")
 }
 
 // One byte more than the longest file, so that a longer one is seen to be longer. Each in a function of its own, so that no proof works out
@@ -67,23 +83,23 @@ fn space_for_table() -> [u32; LINES * checker::NUMBERS_AN_ENTRY] {
     [0; LINES * checker::NUMBERS_AN_ENTRY]
 }
 
-fn main() {
-    let mut word = [0u8; 16];
+fn main(rt: HostRuntime) -> io::Result<()> {
+    let mut digits = [0u8; 16];
     let mut cpf = [0u8; 64];
     let mut file = space_for_file();
     let mut table = space_for_table();
-    let digits = os::arg(1, &mut word);
-    let bytes = os::arg(2, &mut cpf);
-    let len = io::read_full(STDIN_FILENO, &mut file);
+    let count = word(&rt, 1, &mut digits);
+    let bytes = word(&rt, 2, &mut cpf);
+    let len = input::read_all(&mut rt.reader(), &mut file).len;
     if BYTES < len {
         // nothing on standard output: nothing there may be taken for acceptance
-        io::write_all(libc::STDERR_FILENO, b"lookup: the file is too long\n");
-        return;
+        return eprintln!(rt; "lookup: the file is too long");
     }
     look_up(
+        &rt,
         &file[..len],
         &mut table,
-        line_of(&word[..digits]),
+        line_of(&digits[..count]),
         &cpf[..bytes],
-    );
+    )
 }

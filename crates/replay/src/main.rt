@@ -1,13 +1,15 @@
 // Replays a run of cases from standard input through the library, and prints what each comes to: through it any outside suite can hold the
 // library, table and writers included, against its own expectation. docs/REPLAY.md has the form of a case.
-ghost use Rattle.std.specs.Prelude.{◌≤◌, ◌<◌};
-ghost use Rattle.io.specs.Counts.{IsPrefixLen};
+#![tactic(auto)]
+
+ghost use Rattle.std.specs.Prelude.{◌≤◌, ◌<◌, length};
 
 use checker::Answer;
 use editions::Edition;
 use kinds::KINDS;
-use libc::{STDIN_FILENO, STDOUT_FILENO};
 use rules::{AmountRead, Centavos, MonthRead, MonthTenths};
+use std::io;
+use std::io::Read;
 use writer::NumberWritten;
 
 // The most numbers in a table.
@@ -36,6 +38,15 @@ struct Question {
     width: usize,
 }
 
+// Room for what a case may hold: 4,096 bytes, and 65,536.
+fn buffer() -> [u8; 4096] {
+    [0; 4096]
+}
+
+fn large_buffer() -> [u8; 65536] {
+    [0; 65536]
+}
+
 // ---- reading a case
 
 // Four bytes, low byte first.
@@ -45,9 +56,9 @@ fn four(a: u8, b: u8, c: u8, d: u8) -> u64
     a as u64 + 256 * (b as u64) + 65536 * (c as u64) + 16777216 * (d as u64)
 }
 
-fn read_number() -> Number {
+fn read_number(input: &mut impl Read) -> Number {
     let mut b = [0u8; 8];
-    let got = io::read_full(STDIN_FILENO, &mut b);
+    let got = input::read_all(input, &mut b).len;
     let low = four(b[0], b[1], b[2], b[3]);
     let high = four(b[4], b[5], b[6], b[7]);
     Number {
@@ -57,10 +68,10 @@ fn read_number() -> Number {
 }
 
 // A number that is at most so much.
-fn read_at_most(most: usize) -> Count
+fn read_at_most(input: &mut impl Read, most: usize) -> Count
     ensures { result.len ≤ most }
 {
-    let n = read_number();
+    let n = read_number(input);
     let len = n.value as usize;
     if most < len {
         return Count { ok: false, len: 0 };
@@ -69,26 +80,26 @@ fn read_at_most(most: usize) -> Count
 }
 
 // A count of the bytes of a buffer.
-fn read_bytes_within(buf: &[u8]) -> Count
-    ensures { IsPrefixLen result.len buf.now }
+fn read_bytes_within(input: &mut impl Read, buf: &[u8]) -> Count
+    ensures { result.len ≤ length buf.now }
 {
-    read_at_most(buf.len())
+    read_at_most(input, buf.len())
 }
 
 // A count of the numbers of a table.
-fn read_numbers_within(table: &[u32]) -> Count
-    ensures { IsPrefixLen result.len table.now }
+fn read_numbers_within(input: &mut impl Read, table: &[u32]) -> Count
+    ensures { result.len ≤ length table.now }
 {
-    read_at_most(table.len())
+    read_at_most(input, table.len())
 }
 
 // A byte string, put at the start of the buffer.
-fn read_bytes(buf: &mut [u8]) -> Count
-    ensures { IsPrefixLen result.len buf.new }
+fn read_bytes(input: &mut impl Read, buf: &mut [u8]) -> Count
+    ensures { result.len ≤ length buf.new }
 {
-    let n = read_bytes_within(buf);
+    let n = read_bytes_within(input, buf);
     let len = n.len;
-    let got = io::read_full(STDIN_FILENO, &mut buf[..len]);
+    let got = input::read_all(input, &mut buf[..len]).len;
     if got < len {
         return Count { ok: false, len: 0 };
     }
@@ -96,13 +107,13 @@ fn read_bytes(buf: &mut [u8]) -> Count
 }
 
 // As many numbers as the first one says.
-fn read_lengths(lengths: &mut [usize]) -> Count
-    ensures { IsPrefixLen result.len lengths.new }
+fn read_lengths(input: &mut impl Read, lengths: &mut [usize]) -> Count
+    ensures { result.len ≤ length lengths.new }
 {
-    let n = read_at_most(lengths.len());
+    let n = read_at_most(input, lengths.len());
     let mut i = 0;
     while i < n.len {
-        let next = read_number();
+        let next = read_number(input);
         if !next.ok {
             return Count { ok: false, len: 0 };
         }
@@ -113,13 +124,13 @@ fn read_lengths(lengths: &mut [usize]) -> Count
 }
 
 // A table of as many numbers as the first one says, each of 32 bits, put at the start of the buffer.
-fn read_table(table: &mut [u32]) -> Count
-    ensures { IsPrefixLen result.len table.new }
+fn read_table(input: &mut impl Read, table: &mut [u32]) -> Count
+    ensures { result.len ≤ length table.new }
 {
-    let n = read_at_most(table.len());
+    let n = read_at_most(input, table.len());
     let mut i = 0;
     while i < n.len {
-        let next = read_at_most(4294967295);
+        let next = read_at_most(input, 4294967295);
         if !next.ok {
             return Count { ok: false, len: 0 };
         }
@@ -129,22 +140,22 @@ fn read_table(table: &mut [u32]) -> Count
     n
 }
 
-fn read_entries(letter: u8, table: &mut [u32]) -> Count
-    ensures { IsPrefixLen result.len table.new }
+fn read_entries(input: &mut impl Read, letter: u8, table: &mut [u32]) -> Count
+    ensures { result.len ≤ length table.new }
 {
     if letter == b'S' {
-        return read_numbers_within(table);
+        return read_numbers_within(input, table);
     }
-    read_table(table)
+    read_table(input, table)
 }
 
 // A file, a line of 32 bits and a key, each byte string at the start of its buffer.
-fn read_question(file: &mut [u8], key: &mut [u8]) -> Question
-    ensures { IsPrefixLen result.len file.new × IsPrefixLen result.width key.new }
+fn read_question(input: &mut impl Read, file: &mut [u8], key: &mut [u8]) -> Question
+    ensures { (result.len ≤ length file.new) × (result.width ≤ length key.new) }
 {
-    let f = read_bytes(file);
-    let line = read_at_most(4294967295);
-    let k = read_bytes(key);
+    let f = read_bytes(input, file);
+    let line = read_at_most(input, 4294967295);
+    let k = read_bytes(input, key);
     Question {
         ok: f.ok && line.ok && k.ok,
         len: f.len,
@@ -205,368 +216,393 @@ fn bytes_kept(out: &[u8], from: usize) -> bool {
 
 // ---- printing
 
-fn print_first(n: u64) {
-    io::print_decimal(STDOUT_FILENO, n);
+fn print_first(rt: &impl Print, n: u64) -> io::Result<()> {
+    print!(rt; "{n}")
 }
 
-fn print_next(n: u64) {
-    io::write_all(STDOUT_FILENO, b" ");
-    io::print_decimal(STDOUT_FILENO, n);
+fn print_next(rt: &impl Print, n: u64) -> io::Result<()> {
+    print!(rt; " {n}")
 }
 
-fn print_number(n: u32) {
-    print_next(n as u64);
+fn print_number(rt: &impl Print, n: u32) -> io::Result<()> {
+    print_next(rt, n as u64)
 }
 
-fn print_byte(b: u8) {
-    io::print_hex(STDOUT_FILENO, b as u64, 2);
+fn print_byte(rt: &impl Print, b: u8) -> io::Result<()> {
+    print!(rt; "{b:02x}")
 }
 
-fn print_yes(b: bool) {
+fn print_yes(rt: &impl Print, b: bool) -> io::Result<()> {
     if b {
-        print_next(1);
+        print_next(rt, 1)
     } else {
-        print_next(0);
+        print_next(rt, 0)
     }
 }
 
-fn print_end() {
-    io::write_all(STDOUT_FILENO, b"\n");
+fn print_end(rt: &impl Print) -> io::Result<()> {
+    rt.write_all(b"\n")
 }
 
 // The first so many numbers of a table.
-fn print_numbers(table: &[u32], count: usize) {
+fn print_numbers(rt: &impl Print, table: &[u32], count: usize) -> io::Result<()> {
     let mut i = 0;
     while i < count {
         if table.len() <= i {
-            return;
+            return Ok(());
         }
-        print_number(table[i]);
+        print_number(rt, table[i])?;
         i += 1;
     }
+    Ok(())
 }
 
 // The first so many bytes of an output in hexadecimal; nothing where there are none.
-fn print_bytes(out: &[u8], count: usize) {
+fn print_bytes(rt: &impl Print, out: &[u8], count: usize) -> io::Result<()> {
     if count == 0 {
-        return;
+        return Ok(());
     }
-    io::write_all(STDOUT_FILENO, b" ");
+    rt.write_all(b" ")?;
     let mut i = 0;
     while i < count {
         if out.len() <= i {
-            return;
+            return Ok(());
         }
-        print_byte(out[i]);
+        print_byte(rt, out[i])?;
         i += 1;
     }
+    Ok(())
 }
 
-fn print_answer(a: Answer) {
-    print_first(a.number as u64);
-    print_next(a.line as u64);
-    print_next(a.field as u64);
-    print_next(a.entries as u64);
+fn print_answer(rt: &impl Print, a: Answer) -> io::Result<()> {
+    print_first(rt, a.number as u64)?;
+    print_next(rt, a.line as u64)?;
+    print_next(rt, a.field as u64)?;
+    print_next(rt, a.entries as u64)
 }
 
 // Each kind whose total is not 0, with it.
-fn print_totals(totals: &[u64]) {
+fn print_totals(rt: &impl Print, totals: &[u64]) -> io::Result<()> {
     let mut k = 0;
     while k < totals.len() {
         let total = totals[k];
         k += 1;
         if total != 0 {
-            print_next((k - 1) as u64);
-            print_next(total);
+            print_next(rt, (k - 1) as u64)?;
+            print_next(rt, total)?;
         }
     }
+    Ok(())
 }
 
 // ---- the cases, each on the parts that it was given
 
-fn replay_check(file: &[u8], table: &mut [u32]) {
+fn replay_check(rt: &impl Print, file: &[u8], table: &mut [u32]) -> io::Result<()> {
     fill_numbers(table);
     let a = checker::check(file, table);
     let count = checker::NUMBERS_AN_ENTRY * (a.entries as usize);
-    print_answer(a);
-    print_yes(numbers_kept(table, count));
-    print_numbers(table, count);
-    print_end();
+    print_answer(rt, a)?;
+    print_yes(rt, numbers_kept(table, count))?;
+    print_numbers(rt, table, count)?;
+    print_end(rt)
 }
 
-fn replay_totals(file: &[u8], table: &mut [u32]) {
+fn replay_totals(rt: &impl Print, file: &[u8], table: &mut [u32]) -> io::Result<()> {
     let mut totals = [0u64; KINDS];
-    print_answer(checker::check_totals(file, table, &mut totals));
-    print_totals(&totals);
-    print_end();
+    print_answer(rt, checker::check_totals(file, table, &mut totals))?;
+    print_totals(rt, &totals)?;
+    print_end(rt)
 }
 
-fn replay_search(file: &[u8], table: &[u32], line: u32, key: &[u8]) {
+fn replay_search(
+    rt: &impl Print,
+    file: &[u8],
+    table: &[u32],
+    line: u32,
+    key: &[u8],
+) -> io::Result<()> {
     let s = search::search(file, table, line, key);
-    print_first(s.number as u64);
-    print_next(s.line as u64);
-    print_next(s.count as u64);
-    print_end();
+    print_first(rt, s.number as u64)?;
+    print_next(rt, s.line as u64)?;
+    print_next(rt, s.count as u64)?;
+    print_end(rt)
 }
 
 // For `S` with the entries that the check has written, and nothing more lent; for `T` with the table as it is.
-fn replay_question(letter: u8, file: &[u8], table: &mut [u32], line: u32, key: &[u8]) {
+fn replay_question(
+    rt: &impl Print,
+    letter: u8,
+    file: &[u8],
+    table: &mut [u32],
+    line: u32,
+    key: &[u8],
+) -> io::Result<()> {
     if letter == b'S' {
         let a = checker::check(file, table);
-        replay_search(file, search::entries(table, a.entries), line, key);
-        return;
+        return replay_search(rt, file, search::entries(table, a.entries), line, key);
     }
-    replay_search(file, table, line, key);
+    replay_search(rt, file, table, line, key)
 }
 
-fn replay_line(e: Edition, kind: u32, contents: &[u8], lengths: &[usize], out: &mut [u8]) {
+fn replay_line(
+    rt: &impl Print,
+    e: Edition,
+    kind: u32,
+    contents: &[u8],
+    lengths: &[usize],
+    out: &mut [u8],
+) -> io::Result<()> {
     fill_bytes(out);
     let w = writer::write_line(e, kind, contents, lengths, out);
-    print_first(w.number as u64);
-    print_next(w.field as u64);
-    print_next(w.count as u64);
-    print_yes(bytes_kept(out, w.count));
-    print_bytes(out, w.count);
-    print_end();
+    print_first(rt, w.number as u64)?;
+    print_next(rt, w.field as u64)?;
+    print_next(rt, w.count as u64)?;
+    print_yes(rt, bytes_kept(out, w.count))?;
+    print_bytes(rt, out, w.count)?;
+    print_end(rt)
 }
 
-fn replay_field(k: usize, line: &[u8]) {
+fn replay_field(rt: &impl Print, k: usize, line: &[u8]) -> io::Result<()> {
     let p = fields::place_of(line, k);
     if fields::field_there(line, k) {
-        print_first(1);
+        print_first(rt, 1)?;
     } else {
-        print_first(0);
+        print_first(rt, 0)?;
     }
-    print_next(p.start as u64);
-    print_next(p.len as u64);
-    print_end();
+    print_next(rt, p.start as u64)?;
+    print_next(rt, p.len as u64)?;
+    print_end(rt)
 }
 
-fn print_reading(number: u32, value: u64) {
-    print_first(number as u64);
-    print_next(value);
-    print_end();
+fn print_reading(rt: &impl Print, number: u32, value: u64) -> io::Result<()> {
+    print_first(rt, number as u64)?;
+    print_next(rt, value)?;
+    print_end(rt)
 }
 
-fn replay_amount(field: &[u8]) {
+fn replay_amount(rt: &impl Print, field: &[u8]) -> io::Result<()> {
     let a = rules::read_amount(field);
     match a {
-        AmountRead::Value(v) => print_reading(0, v.0),
-        AmountRead::Refused(n) => print_reading(n, 0),
+        AmountRead::Value(v) => print_reading(rt, 0, v.0),
+        AmountRead::Refused(n) => print_reading(rt, n, 0),
     }
 }
 
-fn replay_months(field: &[u8]) {
+fn replay_months(rt: &impl Print, field: &[u8]) -> io::Result<()> {
     let a = rules::read_months(field);
     match a {
-        MonthRead::Value(v) => print_reading(0, v.0),
-        MonthRead::Refused(n) => print_reading(n, 0),
+        MonthRead::Value(v) => print_reading(rt, 0, v.0),
+        MonthRead::Refused(n) => print_reading(rt, n, 0),
     }
 }
 
-fn print_written(w: NumberWritten, out: &[u8]) {
-    print_first(w.number as u64);
-    print_next(w.count as u64);
-    print_yes(bytes_kept(out, w.count));
-    print_bytes(out, w.count);
-    print_end();
+fn print_written(rt: &impl Print, w: NumberWritten, out: &[u8]) -> io::Result<()> {
+    print_first(rt, w.number as u64)?;
+    print_next(rt, w.count as u64)?;
+    print_yes(rt, bytes_kept(out, w.count))?;
+    print_bytes(rt, out, w.count)?;
+    print_end(rt)
 }
 
-fn replay_write_amount(value: u64, out: &mut [u8]) {
+fn replay_write_amount(rt: &impl Print, value: u64, out: &mut [u8]) -> io::Result<()> {
     fill_bytes(out);
     let w = writer::write_amount(Centavos(value), out);
-    print_written(w, out);
+    print_written(rt, w, out)
 }
 
-fn replay_write_months(value: u64, out: &mut [u8]) {
+fn replay_write_months(rt: &impl Print, value: u64, out: &mut [u8]) -> io::Result<()> {
     fill_bytes(out);
     let w = writer::write_months(MonthTenths(value), out);
-    print_written(w, out);
+    print_written(rt, w, out)
 }
 
 // ---- the cases as they are read; false where one is bad
 
 // The size of a table and a file: `C`, or `N` with totals.
-fn case_check(letter: u8) -> bool {
+fn case_check(rt: &impl Print, input: &mut impl Read, letter: u8) -> io::Result<bool> {
     let mut table = [0u32; NUMBERS];
-    let mut file = io::large_buffer();
-    let n = read_numbers_within(&table);
+    let mut file = large_buffer();
+    let n = read_numbers_within(input, &table);
     if !n.ok {
-        return false;
+        return Ok(false);
     }
-    let f = read_bytes(&mut file);
+    let f = read_bytes(input, &mut file);
     if !f.ok {
-        return false;
+        return Ok(false);
     }
     let size = n.len;
     let len = f.len;
     if letter == b'C' {
-        replay_check(&file[..len], &mut table[..size]);
+        replay_check(rt, &file[..len], &mut table[..size])?;
     } else {
-        replay_totals(&file[..len], &mut table[..size]);
+        replay_totals(rt, &file[..len], &mut table[..size])?;
     }
-    true
+    Ok(true)
 }
 
 // The size of a table for `S`, its numbers for `T`, and then the question.
-fn case_search(letter: u8) -> bool {
+fn case_search(rt: &impl Print, input: &mut impl Read, letter: u8) -> io::Result<bool> {
     let mut table = [0u32; NUMBERS];
-    let mut file = io::large_buffer();
-    let mut key = io::large_buffer();
-    let n = read_entries(letter, &mut table);
+    let mut file = large_buffer();
+    let mut key = large_buffer();
+    let n = read_entries(input, letter, &mut table);
     if !n.ok {
-        return false;
+        return Ok(false);
     }
-    let q = read_question(&mut file, &mut key);
+    let q = read_question(input, &mut file, &mut key);
     if !q.ok {
-        return false;
+        return Ok(false);
     }
     let size = n.len;
     let len = q.len;
     let width = q.width;
     replay_question(
+        rt,
         letter,
         &file[..len],
         &mut table[..size],
         q.line,
         &key[..width],
-    );
-    true
+    )?;
+    Ok(true)
 }
 
-fn case_line(e: Edition) -> bool {
-    let mut out = io::buffer();
-    let mut contents = io::large_buffer();
+fn case_line(rt: &impl Print, input: &mut impl Read, e: Edition) -> io::Result<bool> {
+    let mut out = buffer();
+    let mut contents = large_buffer();
     let mut lengths = [0usize; 32];
-    let kind = read_at_most(4294967295);
+    let kind = read_at_most(input, 4294967295);
     if !kind.ok {
-        return false;
+        return Ok(false);
     }
-    let room = read_bytes_within(&out);
+    let room = read_bytes_within(input, &out);
     if !room.ok {
-        return false;
+        return Ok(false);
     }
-    let c = read_bytes(&mut contents);
+    let c = read_bytes(input, &mut contents);
     if !c.ok {
-        return false;
+        return Ok(false);
     }
-    let l = read_lengths(&mut lengths);
+    let l = read_lengths(input, &mut lengths);
     if !l.ok {
-        return false;
+        return Ok(false);
     }
     let len = c.len;
     let count = l.len;
     let size = room.len;
     replay_line(
+        rt,
         e,
         kind.len as u32,
         &contents[..len],
         &lengths[..count],
         &mut out[..size],
-    );
-    true
+    )?;
+    Ok(true)
 }
 
 // An edition as a number, and then a line.
-fn case_edition() -> bool {
-    let year = read_number();
+fn case_edition(rt: &impl Print, input: &mut impl Read) -> io::Result<bool> {
+    let year = read_number(input);
     if !year.ok {
-        return false;
+        return Ok(false);
     }
     let y = year.value;
     match y {
-        2025 => case_line(Edition::Of2025),
-        2022 => case_line(Edition::Of2022),
-        _ => false,
+        2025 => case_line(rt, input, Edition::Of2025),
+        2022 => case_line(rt, input, Edition::Of2022),
+        _ => Ok(false),
     }
 }
 
-fn case_field() -> bool {
-    let mut line = io::large_buffer();
-    let k = read_number();
+fn case_field(rt: &impl Print, input: &mut impl Read) -> io::Result<bool> {
+    let mut line = large_buffer();
+    let k = read_number(input);
     if !k.ok {
-        return false;
+        return Ok(false);
     }
-    let l = read_bytes(&mut line);
+    let l = read_bytes(input, &mut line);
     if !l.ok {
-        return false;
+        return Ok(false);
     }
     let len = l.len;
-    replay_field(k.value as usize, &line[..len]);
-    true
+    replay_field(rt, k.value as usize, &line[..len])?;
+    Ok(true)
 }
 
 // One byte string for a reader: `A` or `M`.
-fn case_read(letter: u8) -> bool {
-    let mut field = io::large_buffer();
-    let f = read_bytes(&mut field);
+fn case_read(rt: &impl Print, input: &mut impl Read, letter: u8) -> io::Result<bool> {
+    let mut field = large_buffer();
+    let f = read_bytes(input, &mut field);
     if !f.ok {
-        return false;
+        return Ok(false);
     }
     let len = f.len;
     if letter == b'A' {
-        replay_amount(&field[..len]);
+        replay_amount(rt, &field[..len])?;
     } else {
-        replay_months(&field[..len]);
+        replay_months(rt, &field[..len])?;
     }
-    true
+    Ok(true)
 }
 
 // A value and the bytes of room for a writer: `a` or `m`.
-fn case_write(letter: u8) -> bool {
-    let mut out = io::buffer();
-    let v = read_number();
+fn case_write(rt: &impl Print, input: &mut impl Read, letter: u8) -> io::Result<bool> {
+    let mut out = buffer();
+    let v = read_number(input);
     if !v.ok {
-        return false;
+        return Ok(false);
     }
-    let room = read_bytes_within(&out);
+    let room = read_bytes_within(input, &out);
     if !room.ok {
-        return false;
+        return Ok(false);
     }
     let size = room.len;
     if letter == b'a' {
-        replay_write_amount(v.value, &mut out[..size]);
+        replay_write_amount(rt, v.value, &mut out[..size])?;
     } else {
-        replay_write_months(v.value, &mut out[..size]);
+        replay_write_months(rt, v.value, &mut out[..size])?;
     }
-    true
+    Ok(true)
 }
 
-fn replay_case(letter: u8) -> bool {
+fn replay_case(rt: &impl Print, input: &mut impl Read, letter: u8) -> io::Result<bool> {
     match letter {
-        b'C' => case_check(letter),
-        b'N' => case_check(letter),
-        b'S' => case_search(letter),
-        b'T' => case_search(letter),
-        b'W' => case_line(Edition::Of2025),
-        b'E' => case_edition(),
-        b'F' => case_field(),
-        b'A' => case_read(letter),
-        b'M' => case_read(letter),
-        b'a' => case_write(letter),
-        b'm' => case_write(letter),
-        _ => false,
+        b'C' => case_check(rt, input, letter),
+        b'N' => case_check(rt, input, letter),
+        b'S' => case_search(rt, input, letter),
+        b'T' => case_search(rt, input, letter),
+        b'W' => case_line(rt, input, Edition::Of2025),
+        b'E' => case_edition(rt, input),
+        b'F' => case_field(rt, input),
+        b'A' => case_read(rt, input, letter),
+        b'M' => case_read(rt, input, letter),
+        b'a' => case_write(rt, input, letter),
+        b'm' => case_write(rt, input, letter),
+        _ => Ok(false),
     }
 }
 
 // The next case, if there is one; whether to go on.
-fn next_case() -> bool {
+fn next_case(rt: &impl Print, input: &mut impl Read) -> io::Result<bool> {
     let mut letter = [0u8; 1];
-    let got = libc::read(STDIN_FILENO, &mut letter);
-    if got == 0 {
-        return false;
+    let got = input::read_some(input, &mut letter);
+    if got.len == 0 && !got.failed {
+        return Ok(false);
     }
-    if got > 0 && replay_case(letter[0]) {
-        return true;
+    if got.len > 0 && replay_case(rt, input, letter[0])? {
+        return Ok(true);
     }
-    io::write_all(STDOUT_FILENO, b"bad case\n");
-    false
+    rt.write_all(b"bad case\n")?;
+    Ok(false)
 }
 
 // A proved loop has to end, and nothing says that the input does: it counts down from a number that no run uses up.
-fn main() {
+fn main(rt: HostRuntime) -> io::Result<()> {
+    let mut input = rt.reader();
     let mut turns = u64::MAX;
-    while turns > 0 && next_case() {
+    while turns > 0 && next_case(&rt, &mut input)? {
         turns -= 1;
     }
+    Ok(())
 }

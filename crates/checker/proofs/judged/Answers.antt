@@ -2,12 +2,10 @@
 use Prim.Native.Nat.{ℕ}
 use mathlib.Core.Path.{◌≡◌, subst}
 use mathlib.Core.List.{List}
-use borrow.Author.Rules.{rules}
 use Rattle.dirf.specs.Bytes.{Text}
 use Rattle.dirf.specs.Editions.{EditionName, edition_named, edition_name_of, edition_of}
 use Rattle.checker.specs.Answers.{Judged}
 use Rattle.checker.specs.declared.Answer.{Answer}
-use Rattle.checker.proofs.Table.{judged_length, judged_totals}
 use Rattle.checker.proofs.judged.Goals as goal
 
 own : {n : EditionName} {file : Text} {room : ℕ} {before after first last : List ℕ} {r : Answer} → n ≡ edition_name_of file

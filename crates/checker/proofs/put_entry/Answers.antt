@@ -1,6 +1,5 @@
 -- An entry that the table does not hold whole is not written.
 use native.Mathlib.Omega.{arith}
-use lib.Seq.{length-sets}
 use borrow.Author.Tests.{lt-ltb, le-ltb}
 use Rattle.checker.specs.Answers.{put_entry}
 use Rattle.checker.proofs.put_entry.Goals as goal

@@ -1,6 +1,5 @@
 -- The fifth number of an entry that the table does not hold whole is not written.
 use native.Mathlib.Omega.{arith}
-use lib.ListN.{length-set}
 use borrow.Author.Tests.{le-leb, lt-leb}
 use Rattle.checker.specs.Answers.{put_last}
 use Rattle.checker.proofs.put_last.Goals as goal

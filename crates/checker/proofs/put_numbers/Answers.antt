@@ -1,11 +1,11 @@
 -- What is left of the numbers goes where the last one ended.
-use Prim.Native.Nat.{suc, ◌+◌, ◌-◌, ◌≤◌}
+use Prim.Native.Nat.{suc, ◌+◌}
 use mathlib.Core.Path.{◌≡◌, sym, ◌∙◌}
 use native.Mathlib.Nat.{add-zero}
 use native.Mathlib.Numerals.{add-one}
 use native.Mathlib.Omega.{arith}
-use lib.ListN.{length, drop, length-set, drop_of_length-le}
-use lib.Seq.{sets, drop-cons}
+use lib.ListN.{length-set, drop_of_length-le}
+use lib.Seq.{drop-cons}
 use Rattle.checker.proofs.put_numbers.Goals as goal
 
 pub loop-j-init : goal.loop-j-init

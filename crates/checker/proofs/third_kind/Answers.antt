@@ -1,6 +1,5 @@
 -- The identifier of what stands behind two lines.
 use mathlib.Core.Path.{◌≡◌}
-use borrow.Author.Rules.{rules}
 use Rattle.fields.specs.Places.{part_of, scan_of}
 use Rattle.dirf.specs.Bytes.{Text}
 use Rattle.dirf.specs.Lines.{clean}

@@ -1,11 +1,9 @@
 -- Line 3 is a DECPF.
 use mathlib.Core.Path.{sym, ap, ◌∙◌}
-use borrow.Author.Rules.{rules}
 use Rattle.layout.specs.Tables.{below_table}
 use Rattle.editions.specs.Editions.{edition_says, edition_said}
 use Rattle.checker.specs.Answers.{SayAll}
 use Rattle.checker.proofs.Editions.{say_all}
-use Rattle.checker.proofs.Table.{judged_length, judged_totals}
 use Rattle.checker.proofs.walk_pf.Goals as goal
 
 pub walk-requires : goal.walk-requires

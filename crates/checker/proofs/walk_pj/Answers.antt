@@ -1,11 +1,9 @@
 -- Line 3 is no DECPF.
 use mathlib.Core.Path.{sym, ◌∙◌}
-use borrow.Author.Rules.{rules}
 use Rattle.editions.specs.Editions.{edition_says, edition_said}
 use Rattle.layout.proofs.Editions.{other_table}
 use Rattle.checker.specs.Answers.{SayAll}
 use Rattle.checker.proofs.Editions.{say_all}
-use Rattle.checker.proofs.Table.{judged_length, judged_totals}
 use Rattle.checker.proofs.walk_pj.Goals as goal
 
 pub walk-requires : goal.walk-requires

@@ -1,6 +1,5 @@
 use mathlib.Core.Path.{sym, ◌∙◌}
 use mathlib.Core.List.{[], ◌∷◌}
-use borrow.Author.Rules.{rules}
 use Rattle.dirf.specs.Kinds.{DECPF, PROC, RRA}
 use Rattle.fields.proofs.Arms.{not_in}
 use Rattle.conditions.proofs.Fields.{no_conditions}

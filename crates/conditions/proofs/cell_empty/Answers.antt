@@ -1,5 +1,4 @@
 use mathlib.Core.Path.{ap, ◌∙◌}
-use borrow.Author.Rules.{rules}
 use Rattle.dirf.specs.Bytes.{is_empty}
 use Rattle.conditions.proofs.Fields.{no_byte}
 use Rattle.conditions.proofs.cell_empty.Goals as goal

@@ -1,7 +1,5 @@
 use mathlib.Core.Path.{sym, ap, ◌∙◌}
 use mathlib.Core.Bool.{not}
-use borrow.Author.Rules.{rules}
-use borrow.Author.Tests.{not-true, not-false}
 use Rattle.dirf.specs.Lines.{field}
 use Rattle.conditions.specs.Broken.{death_unstated}
 use Rattle.conditions.proofs.death_unstated.Goals as goal

@@ -1,9 +1,6 @@
 use mathlib.Core.Path.{◌≡◌, sym, ◌∙◌}
 use mathlib.Core.Bool.{true, false}
-use mathlib.Core.List.{List}
-use borrow.Author.Rules.{rules}
-use borrow.Author.Tests.{not-true, not-false}
-use Rattle.dirf.specs.Bytes.{Text, is_empty}
+use Rattle.dirf.specs.Bytes.{is_empty}
 use Rattle.dirf.specs.Lines.{field}
 use Rattle.dirf.specs.Conditions.{special}
 use Rattle.fields.specs.Places.{cells_at}

@@ -1,7 +1,4 @@
 use mathlib.Core.Path.{sym, ◌∙◌}
-use mathlib.Core.List.{List}
-use borrow.Author.Rules.{rules}
-use Rattle.dirf.specs.Bytes.{Text}
 use Rattle.dirf.specs.Lines.{field}
 use Rattle.dirf.specs.Conditions.{lawyers, person, firm, nobody}
 use Rattle.dirf.proofs.tests.Lists.{listed}

@@ -1,4 +1,3 @@
-use borrow.Author.Rules.{rules}
 use borrow.Author.Tests.{lt-ltb, le-ltb}
 use Rattle.dirf.specs.Digits.{check_digit}
 use Rattle.digits.proofs.check_digit.Goals as goal

@@ -1,4 +1,3 @@
-use borrow.Author.Rules.{rules}
 use Rattle.dirf.specs.Digits.{digit_right}
 use Rattle.digits.proofs.digit_right.Goals as goal
 

@@ -1,6 +1,5 @@
 use mathlib.Core.Bool.{or-false}
 use native.Mathlib.Omega.{arith}
-use borrow.Author.Rules.{rules}
 use Rattle.dirf.specs.Digits.{front_of_CPF, weights_of_CPF, front_of_CNPJ, weights_of_CNPJ}
 use Rattle.digits.proofs.Sizes.{other_size}
 use Rattle.digits.proofs.right_either.Goals as goal

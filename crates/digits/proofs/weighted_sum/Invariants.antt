@@ -1,10 +1,7 @@
 use Prim.Native.Nat.{◌+◌, ◌-◌, ◌*◌, ◌≤◌}
 use mathlib.Core.Path.{◌≡◌}
-use native.Mathlib.Omega.{arith}
-use borrow.Author.Rules.{rules}
-use lib.ListN.{length, drop, drop_of_length-le}
+use lib.ListN.{length, drop}
 use Rattle.dirf.specs.Digits.{weighted}
-use Rattle.dirf.proofs.tests.Lists.{drop_on}
 use Rattle.digits.proofs.weighted_sum.Given as goal
 
 -- what is summed so far, with what the rest will give, is the whole; each product is below 65,536

@@ -1,6 +1,5 @@
 -- The mark is that of the older edition, or it is not.
 use mathlib.Core.Path.{◌≡◌, sym, ap, ◌∙◌}
-use borrow.Author.Rules.{rules}
 use Rattle.dirf.specs.Bytes.{same}
 use Rattle.dirf.specs.Layout.{mark2022}
 use Rattle.dirf.specs.Lines.{fields, field}

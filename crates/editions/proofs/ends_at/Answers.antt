@@ -1,5 +1,4 @@
 -- The two bytes, one after the other.
-use native.Mathlib.Omega.{arith}
 use borrow.Author.Tests.{eq-eqb, ne_eqb}
 use Rattle.editions.proofs.ends_at.Goals as goal
 

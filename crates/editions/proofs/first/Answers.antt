@@ -1,6 +1,5 @@
 -- It stands at the front of the file.
 use mathlib.Core.Path.{◌∙◌}
-use borrow.Author.Rules.{rules}
 use Rattle.dirf.proofs.files.Line1.{line1_front}
 use Rattle.fields.specs.Places.{part_of}
 use Rattle.editions.proofs.first.Goals as goal

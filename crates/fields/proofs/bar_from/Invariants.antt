@@ -1,12 +1,8 @@
 -- The first bar from `from` on is the first from byte i on: none has been passed.
-use Prim.Native.Nat.{suc, ◌≤◌, ◌+◌, ◌-◌}
-use mathlib.Core.Path.{◌≡◌, ap}
-use native.Mathlib.Omega.{arith}
-use lib.ListN.{length, drop, drop_of_length-le}
-use borrow.Author.Tests.{eq-eqb, ne_eqb}
+use Prim.Native.Nat.{◌≤◌, ◌+◌, ◌-◌}
+use mathlib.Core.Path.{◌≡◌}
+use lib.ListN.{length, drop}
 use Rattle.fields.specs.Places.{bar_in}
-use Rattle.dirf.specs.Limits.{bar}
-use Rattle.dirf.proofs.tests.Lists.{drop_on}
 use Rattle.fields.proofs.bar_from.Given as goal
 
 abbrev pub invariant-loop-i : goal.invariant-loop-i

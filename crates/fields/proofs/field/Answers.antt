@@ -2,7 +2,6 @@
 use mathlib.Core.Path.{refl, ap}
 use native.Mathlib.Nat.{add-sub_cancel_left}
 use native.Mathlib.Omega.{arith}
-use borrow.Author.Rules.{rules}
 use Rattle.fields.specs.Places.{part_of, place_of}
 use Rattle.fields.proofs.Spots.{placed}
 use Rattle.fields.proofs.field.Goals as goal

@@ -1,9 +1,6 @@
 -- The texts compare as what is left of them from byte i on.
-use Prim.Native.Nat.{◌≤◌, ◌-◌}
-use mathlib.Core.Path.{◌≡◌, refl, sym, ◌∙◌}
+use mathlib.Core.Path.{refl, sym, ◌∙◌}
 use native.Mathlib.Omega.{arith}
-use lib.ListN.{length, drop}
-use Rattle.dirf.specs.Bytes.{less}
 use Rattle.fields.proofs.Compare.{less_on, less_off, less_short, less_end}
 use Rattle.fields.proofs.less.Goals as goal
 

@@ -1,10 +1,8 @@
 -- The texts compare as what is left of them from byte i on.
 use Prim.Native.Nat.{◌≤◌, ◌-◌}
-use mathlib.Core.Path.{◌≡◌, refl, sym, ◌∙◌}
-use native.Mathlib.Omega.{arith}
+use mathlib.Core.Path.{◌≡◌}
 use lib.ListN.{length, drop}
 use Rattle.dirf.specs.Bytes.{less}
-use Rattle.fields.proofs.Compare.{less_on, less_off, less_short, less_end}
 use Rattle.fields.proofs.less.Given as goal
 
 abbrev pub invariant-loop-i : goal.invariant-loop-i

@@ -1,5 +1,4 @@
 -- Fewer digits first; as many, and the bytes decide.
-use borrow.Author.Rules.{rules}
 use borrow.Author.Tests.{lt-ltb, le-ltb, eq-eqb, ne_eqb}
 use Rattle.fields.proofs.Keys.{numbers}
 use Rattle.fields.proofs.number_less.Goals as goal

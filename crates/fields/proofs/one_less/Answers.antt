@@ -2,7 +2,6 @@
 use mathlib.Core.Path.{refl}
 use mathlib.Core.Bool.{true}
 use mathlib.Core.List.{[], ◌∷◌}
-use borrow.Author.Rules.{rules}
 use Rattle.dirf.specs.Bytes.{is_in, bytes_opens}
 use Rattle.dirf.specs.Kinds.{reimbursements}
 use Rattle.fields.proofs.Arms.{keys, not_in}

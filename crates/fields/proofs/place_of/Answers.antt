@@ -1,10 +1,7 @@
 -- Field k of the line is field `left` of what begins at byte `start`.
-use Prim.Native.Nat.{◌≤◌}
 use mathlib.Core.Path.{◌≡◌, sym, ◌∙◌}
 use native.Mathlib.Omega.{arith}
-use lib.ListN.{length}
-use Rattle.fields.specs.Places.{place_of}
-use Rattle.fields.proofs.Spots.{sought, place_is, sought_none, sought_first, sought_next}
+use Rattle.fields.proofs.Spots.{place_is, sought_none, sought_first, sought_next}
 use Rattle.fields.proofs.place_of.Goals as goal
 
 pub loop-left-init : goal.loop-left-init

@@ -1,10 +1,9 @@
 -- Field k of the line is field `left` of what begins at byte `start`.
 use Prim.Native.Nat.{◌≤◌}
-use mathlib.Core.Path.{◌≡◌, sym, ◌∙◌}
-use native.Mathlib.Omega.{arith}
+use mathlib.Core.Path.{◌≡◌}
 use lib.ListN.{length}
 use Rattle.fields.specs.Places.{place_of}
-use Rattle.fields.proofs.Spots.{sought, place_is, sought_none, sought_first, sought_next}
+use Rattle.fields.proofs.Spots.{sought}
 use Rattle.fields.proofs.place_of.Given as goal
 
 abbrev pub invariant-loop-left : goal.invariant-loop-left

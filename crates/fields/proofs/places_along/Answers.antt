@@ -1,12 +1,9 @@
 -- The places along the lengths are what the walk from length i on makes of those noted so far.
-use Prim.Native.Nat.{◌≤◌, ◌-◌}
-use mathlib.Core.Path.{◌≡◌, refl, sym, ap, ◌∙◌}
+use mathlib.Core.Path.{refl, sym, ap, ◌∙◌}
 use native.Mathlib.Omega.{arith}
-use borrow.Author.Rules.{rules}
-use lib.ListN.{length, drop, length-set, drop_of_length-le}
+use lib.ListN.{length-set, drop_of_length-le}
 use Rattle.fields.specs.declared.Places.{Places}
 use Rattle.fields.specs.Places.{no_places, add_place, along_from, places_along}
-use Rattle.fields.proofs.PlaceLaws.{Fifteen}
 use Rattle.dirf.proofs.tests.Lists.{drop_on}
 use Rattle.fields.proofs.places_along.Goals as goal
 

@@ -1,13 +1,10 @@
 -- The places along the lengths are what the walk from length i on makes of those noted so far.
 use Prim.Native.Nat.{◌≤◌, ◌-◌}
-use mathlib.Core.Path.{◌≡◌, refl, sym, ap, ◌∙◌}
-use native.Mathlib.Omega.{arith}
-use borrow.Author.Rules.{rules}
-use lib.ListN.{length, drop, length-set, drop_of_length-le}
+use mathlib.Core.Path.{◌≡◌}
+use lib.ListN.{length, drop}
 use Rattle.fields.specs.declared.Places.{Places}
-use Rattle.fields.specs.Places.{no_places, add_place, along_from, places_along}
+use Rattle.fields.specs.Places.{along_from, places_along}
 use Rattle.fields.proofs.PlaceLaws.{Fifteen}
-use Rattle.dirf.proofs.tests.Lists.{drop_on}
 use Rattle.fields.proofs.places_along.Given as goal
 
 -- a place a length

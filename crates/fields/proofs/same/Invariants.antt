@@ -1,10 +1,8 @@
 -- The texts are the same if they are as long, and what is left of them from byte i on is the same.
 use Prim.Native.Nat.{◌≤◌, ◌-◌}
-use mathlib.Core.Path.{◌≡◌, refl, sym, ◌∙◌}
-use native.Mathlib.Omega.{arith}
+use mathlib.Core.Path.{◌≡◌}
 use lib.ListN.{length, drop}
 use Rattle.dirf.specs.Bytes.{same}
-use Rattle.fields.proofs.Compare.{same_longer, same_on, same_off, same_end}
 use Rattle.fields.proofs.same.Given as goal
 
 abbrev pub invariant-loop-i : goal.invariant-loop-i

@@ -1,17 +1,14 @@
 -- The places of the line are what the walk from byte i on makes of those noted so far.
-use Prim.Native.Nat.{ℕ, ◌+◌, ◌≤◌, ◌-◌}
+use Prim.Native.Nat.{ℕ, ◌+◌}
 use mathlib.Core.Path.{◌≡◌, refl, sym, ap, ap₂, ◌∙◌}
-use mathlib.Core.Logic.{⊎_elim}
 use mathlib.Core.List.{[]}
 use native.Mathlib.Omega.{arith}
-use borrow.Author.Rules.{rules}
 use lib.ListN.{length, drop, length-set}
 use Rattle.dirf.specs.Bytes.{Text}
 use Rattle.dirf.specs.Lines.{clean}
 use Rattle.fields.specs.declared.Places.{Places}
 use Rattle.fields.specs.declared.Scanned.{Scanned}
 use Rattle.fields.specs.Places.{no_places, add_place, places_from, places_of, scan_of}
-use Rattle.fields.proofs.PlaceLaws.{Fifteen}
 use Rattle.fields.proofs.Walk.{clean_on, clean_stop, clean_end, walk_bar, walk_on}
 use Rattle.fields.proofs.scan.Goals as goal
 use Rattle.fields.proofs.scan.Goals.{then-b-eq124, else-b-eq124}

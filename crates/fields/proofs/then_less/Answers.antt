@@ -1,6 +1,5 @@
 -- Each way by what the compares on it said.
 use mathlib.Core.Bool.{and-false, or-false}
-use borrow.Author.Rules.{rules}
 use Rattle.dirf.specs.Keys.{key_less}
 use Rattle.fields.proofs.then_less.Goals as goal
 

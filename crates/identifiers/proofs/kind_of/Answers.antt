@@ -1,7 +1,6 @@
 -- The kind in 2025, or none where the older edition lacks it.
 use mathlib.Core.Path.{◌≡◌, refl, ap, ◌∙◌}
 use mathlib.Core.List.{[], ◌∷◌}
-use borrow.Author.Rules.{rules}
 use Rattle.dirf.specs.Bytes.{bytes_opens}
 use Rattle.dirf.specs.Edition.{kind_of, edition2025, edition2022}
 use Rattle.dirf.specs.Editions.{edition_named}

@@ -1,9 +1,7 @@
 -- What is left of both behind byte i is the same, or not.
-use Prim.Native.Nat.{◌+◌, ◌-◌, ◌≤◌}
-use mathlib.Core.Path.{◌≡◌, ◌∙◌}
+use Prim.Native.Nat.{◌+◌}
+use mathlib.Core.Path.{◌∙◌}
 use native.Mathlib.Omega.{arith}
-use lib.ListN.{length, drop}
-use Rattle.dirf.specs.Bytes.{same}
 use Rattle.fields.proofs.Compare.{same_on, same_off, same_end}
 use Rattle.identifiers.proofs.Names.{after_first, one_left}
 use Rattle.identifiers.proofs.only.Goals as goal

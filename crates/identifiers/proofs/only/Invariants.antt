@@ -1,11 +1,8 @@
 -- What is left of both behind byte i is the same, or not.
 use Prim.Native.Nat.{◌+◌, ◌-◌, ◌≤◌}
-use mathlib.Core.Path.{◌≡◌, ◌∙◌}
-use native.Mathlib.Omega.{arith}
+use mathlib.Core.Path.{◌≡◌}
 use lib.ListN.{length, drop}
 use Rattle.dirf.specs.Bytes.{same}
-use Rattle.fields.proofs.Compare.{same_on, same_off, same_end}
-use Rattle.identifiers.proofs.Names.{after_first, one_left}
 use Rattle.identifiers.proofs.only.Given as goal
 
 abbrev pub invariant-loop-i : goal.invariant-loop-i

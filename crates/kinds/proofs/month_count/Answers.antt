@@ -1,4 +1,3 @@
-use borrow.Author.Rules.{rules}
 use Rattle.kinds.specs.Kinds.{month_count}
 use Rattle.kinds.proofs.month_count.Goals as goal
 

@@ -4,7 +4,6 @@ use mathlib.Core.Path.{◌≡◌, refl, sym, ◌∙◌}
 use mathlib.Core.Bool.{true, or-false}
 use mathlib.Core.List.{[], ◌∷◌}
 use types.Run.{OneOf}
-use borrow.Author.Rules.{rules}
 use Rattle.dirf.specs.Bytes.{is_in, bytes_opens}
 use Rattle.dirf.specs.Kinds.{values, reimbursements, opens_nothing, stands_once, kinds_opens}
 use Rattle.fields.proofs.Arms.{keys, not_in}

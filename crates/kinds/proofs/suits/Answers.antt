@@ -1,6 +1,5 @@
 -- Below an IDREC the block decides, and below an INFPA the person, of an ESPA.
 use mathlib.Core.Bool.{and-true}
-use borrow.Author.Rules.{rules}
 use borrow.Author.Tests.{ne_eqb}
 use Rattle.dirf.specs.Tree.{suits}
 use Rattle.kinds.proofs.suits.Goals as goal

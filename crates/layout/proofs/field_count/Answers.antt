@@ -1,6 +1,5 @@
 -- A line has room for fifteen rows, so a larger count is cut to fifteen, in the code as in the definition.
 use native.Mathlib.Nat.{min-eq_left, min-eq_right, le_of_lt}
-use borrow.Author.Rules.{rules}
 use borrow.Author.Tests.{lt-ltb, le-ltb}
 use Rattle.layout.specs.Tables.{count_in}
 use Rattle.layout.proofs.field_count.Goals as goal

@@ -1,9 +1,7 @@
 -- What is left of the bytes goes where the last one ended.
-use Prim.Native.Nat.{suc, ◌+◌, ◌-◌, ◌≤◌}
-use mathlib.Core.Path.{◌≡◌, sym, ◌∙◌}
-use native.Mathlib.Nat.{add-zero, sub-zero, sub-eq-zero_of_le}
-use native.Mathlib.Omega.{arith}
-use lib.ListN.{length, replicate, length-set}
+use Prim.Native.Nat.{◌+◌, ◌-◌, ◌≤◌}
+use mathlib.Core.Path.{◌≡◌}
+use lib.ListN.{length, replicate}
 use lib.Seq.{sets}
 use Rattle.layout.proofs.fill.Given as goal
 

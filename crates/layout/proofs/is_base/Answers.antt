@@ -1,7 +1,6 @@
 -- The identifier is looked up in the lent table; a kind that has one is asked whether it is left for later.
 use mathlib.Core.Path.{ap}
 use mathlib.Core.Bool.{not}
-use borrow.Author.Rules.{rules}
 use borrow.Author.Tests.{lt-ltb, le-ltb}
 use Rattle.layout.specs.Tables.{base_in}
 use Rattle.layout.proofs.is_base.Goals as goal

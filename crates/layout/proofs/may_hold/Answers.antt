@@ -1,5 +1,4 @@
 -- The declarant's table is asked first, then the second question.
-use borrow.Author.Rules.{rules}
 use Rattle.layout.specs.Tables.{holds_in}
 use Rattle.layout.proofs.may_hold.Goals as goal
 

@@ -1,5 +1,4 @@
 -- Two slots of the older edition's are empty.
-use borrow.Author.Rules.{rules}
 use Rattle.dirf.specs.Editions.{edition_named}
 use Rattle.layout.proofs.Editions.{names_older}
 use Rattle.layout.proofs.name_table.Goals as goal

@@ -1,5 +1,4 @@
 -- Two cells of the older edition's say no.
-use borrow.Author.Rules.{rules}
 use Rattle.dirf.specs.Editions.{edition_named}
 use Rattle.layout.proofs.Editions.{pf_older}
 use Rattle.layout.proofs.pf_table.Goals as goal

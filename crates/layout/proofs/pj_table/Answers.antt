@@ -1,5 +1,4 @@
 -- Four cells of the older edition's say no.
-use borrow.Author.Rules.{rules}
 use Rattle.dirf.specs.Editions.{edition_named}
 use Rattle.layout.proofs.Editions.{pj_older}
 use Rattle.layout.proofs.pj_table.Goals as goal

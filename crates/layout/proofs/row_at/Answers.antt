@@ -1,6 +1,5 @@
 -- The five bytes are read where the definition reads them, and only where there is a line with such a row.
 use native.Mathlib.Nat.{add-zero}
-use borrow.Author.Rules.{rules}
 use borrow.Author.Tests.{lt-ltb, le-ltb}
 use Rattle.layout.specs.Tables.{byte_in}
 use Rattle.layout.specs.Codes.{row_codes}

@@ -1,5 +1,4 @@
 -- Two records of the older edition's have no rows, and three fields of Dirf other values.
-use borrow.Author.Rules.{rules}
 use Rattle.dirf.specs.Editions.{edition_named}
 use Rattle.layout.proofs.Editions.{rows_older}
 use Rattle.layout.proofs.row_table.Goals as goal

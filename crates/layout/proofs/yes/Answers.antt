@@ -1,5 +1,4 @@
 -- The tables have a row and a place for each kind, and none for a larger number.
-use borrow.Author.Rules.{rules}
 use borrow.Author.Tests.{lt-ltb, le-ltb}
 use Rattle.layout.specs.Tables.{yes_in}
 use Rattle.layout.proofs.yes.Goals as goal

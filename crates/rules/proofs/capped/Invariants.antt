@@ -1,14 +1,7 @@
-use Prim.Native.Nat.{◌+◌, ◌-◌, ◌*◌, ◌^◌, ◌≤◌, ◌<◌}
-use mathlib.Core.Path.{◌≡◌, refl, sym, ap, ◌∙◌}
-use native.Mathlib.Nat.{le_trans, min-eq_left, min-eq_right}
-use native.Mathlib.Omega.{arith}
-use lib.ListN.{length, get_or, drop}
-use Rattle.dirf.specs.Bytes.{is_digit}
+use Prim.Native.Nat.{◌-◌, ◌^◌, ◌≤◌, ◌<◌}
+use mathlib.Core.Path.{◌≡◌}
+use lib.ListN.{length, drop}
 use Rattle.dirf.specs.Numbers.{value_after, value_of}
-use Rattle.dirf.proofs.tests.Says.{digit_says}
-use Rattle.dirf.proofs.tests.Lists.{drop_on}
-use Rattle.rules.proofs.Every.{every_here}
-use Rattle.rules.proofs.Values.{value_end, value_least}
 use Rattle.rules.proofs.capped.Given as goal
 
 abbrev pub invariant-loop-i : goal.invariant-loop-i

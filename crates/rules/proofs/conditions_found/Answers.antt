@@ -1,4 +1,3 @@
-use borrow.Author.Rules.{rules}
 use borrow.Author.Tests.{eq-eqb, ne_eqb}
 use Rattle.rules.specs.Findings.{finding_of}
 use Rattle.rules.proofs.Findings.{at19, conditions_19}

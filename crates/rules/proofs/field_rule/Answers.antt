@@ -1,7 +1,6 @@
 use mathlib.Core.Path.{sym, ◌∙◌}
 use native.Mathlib.Omega.{arith}
-use borrow.Author.Rules.{rules}
-use borrow.Author.Tests.{eq-eqb, ne_eqb, not-true, not-false}
+use borrow.Author.Tests.{eq-eqb, ne_eqb}
 use Rattle.dirf.specs.Fields.{is_obligatory}
 use Rattle.layout.specs.Tables.{need_of, row_of}
 use Rattle.layout.specs.Codes.{row_said}

@@ -1,8 +1,6 @@
 use mathlib.Core.Path.{◌≡◌, sym, ◌∙◌}
 use mathlib.Core.Bool.{true, false}
 use native.Mathlib.Omega.{arith}
-use borrow.Author.Rules.{rules}
-use borrow.Author.Tests.{not-true, not-false}
 use Rattle.dirf.specs.Fields.{valid, digits_held, field_order}
 use Rattle.dirf.specs.Rules.{ask_field}
 use Rattle.layout.specs.Tables.{row_of}

@@ -1,4 +1,3 @@
-use borrow.Author.Rules.{rules}
 use borrow.Author.Tests.{le-leb, lt-leb}
 use Rattle.dirf.specs.Numbers.{is_day}
 use Rattle.rules.proofs.is_day.Goals as goal

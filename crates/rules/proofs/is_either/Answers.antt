@@ -1,6 +1,5 @@
 use mathlib.Core.Path.{sym, ◌∙◌}
 use mathlib.Core.Bool.{or-false}
-use borrow.Author.Rules.{rules}
 use Rattle.dirf.specs.Bytes.{some}
 use Rattle.rules.proofs.is_either.Goals as goal
 

@@ -1,5 +1,4 @@
 use mathlib.Core.Path.{◌∙◌}
-use borrow.Author.Rules.{rules}
 use Rattle.rules.specs.Findings.{only_byte, letter_of}
 use Rattle.rules.proofs.is_letter.Goals as goal
 

@@ -2,7 +2,6 @@
 use mathlib.Core.Path.{◌≡◌}
 use mathlib.Core.Bool.{◌||◌, or_assoc, or-false, or-true}
 use mathlib.Core.List.{[], ◌∷◌}
-use borrow.Author.Rules.{rules}
 use Rattle.dirf.specs.Bytes.{Text, bytes, some, same}
 use Rattle.dirf.specs.Layout.{relation}
 use Rattle.dirf.specs.Fields.{valid}

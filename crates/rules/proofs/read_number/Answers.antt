@@ -1,7 +1,6 @@
 use Prim.Native.Nat.{ℕ}
 use mathlib.Core.Path.{◌≡◌, sym, ◌∙◌}
 use mathlib.Core.List.{[]}
-use borrow.Author.Rules.{rules}
 use Rattle.dirf.specs.Bytes.{Text}
 use Rattle.dirf.specs.Fields.{field_order}
 use Rattle.dirf.specs.Rules.{Found, keeps, breaks, ask_field}

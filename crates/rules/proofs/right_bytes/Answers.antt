@@ -1,11 +1,7 @@
-use Prim.Native.Nat.{◌≤◌, ◌-◌}
-use mathlib.Core.Path.{◌≡◌, refl, sym, ◌∙◌}
+use mathlib.Core.Path.{refl, sym, ◌∙◌}
 use native.Mathlib.Omega.{arith}
-use borrow.Author.Tests.{not-true, not-false}
-use lib.ListN.{length, drop, drop_of_length-le}
-use Rattle.dirf.specs.Bytes.{Text, every}
-use Rattle.dirf.specs.Fields.{right_byte}
-use Rattle.layout.specs.Tables.{format_of}
+use lib.ListN.{drop_of_length-le}
+use Rattle.dirf.specs.Bytes.{every}
 use Rattle.dirf.proofs.tests.Lists.{drop_on}
 use Rattle.rules.proofs.right_bytes.Goals as goal
 

@@ -1,4 +1,3 @@
-use borrow.Author.Rules.{rules}
 use borrow.Author.Tests.{eq-eqb, ne_eqb, le-leb, lt-leb}
 use Rattle.dirf.specs.Fields.{fills_to}
 use Rattle.layout.specs.Tables.{fill_of}

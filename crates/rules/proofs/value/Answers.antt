@@ -1,5 +1,4 @@
 use mathlib.Core.Path.{◌∙◌}
-use borrow.Author.Rules.{rules}
 use Rattle.rules.proofs.Values.{uncapped}
 use Rattle.rules.proofs.value.Goals as goal
 

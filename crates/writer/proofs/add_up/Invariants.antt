@@ -1,11 +1,9 @@
 -- The lengths from i on are held against what is left of the total.
 use Prim.Native.Nat.{◌-◌, ◌≤◌}
-use mathlib.Core.Path.{◌≡◌, refl, sym, ◌∙◌}
-use native.Mathlib.Omega.{arith}
+use mathlib.Core.Path.{◌≡◌}
 use lib.Dec.{eqb}
 use lib.ListN.{length, drop}
 use Rattle.dirf.specs.LineWriter.{sum}
-use Rattle.writer.proofs.Lengths.{sum_past, sum_on, sum_end}
 use Rattle.writer.proofs.add_up.Given as goal
 
 abbrev pub invariant-loop-i : goal.invariant-loop-i

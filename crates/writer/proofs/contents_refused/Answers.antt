@@ -1,5 +1,4 @@
 -- The identifier is the lent table's, and the places are those along the lengths.
-use borrow.Author.Rules.{rules}
 use Rattle.writer.specs.Answers.{contents_along}
 use Rattle.writer.proofs.contents_refused.Goals as goal
 

@@ -1,11 +1,8 @@
 -- The digits counted so far, and those of what is left.
-use Prim.Native.Nat.{ℕ, ◌+◌, ◌≤◌}
-use mathlib.Core.Path.{◌≡◌, ap, ◌∙◌}
-use native.Mathlib.Omega.{arith}
+use Prim.Native.Nat.{◌+◌, ◌≤◌}
+use mathlib.Core.Path.{◌≡◌}
 use lib.ListN.{length}
 use Rattle.dirf.specs.Numbers.{decimal}
-use Rattle.dirf.proofs.back.NumbersBack.{nothing_written}
-use Rattle.writer.proofs.Digits.{count_on, count_most}
 use Rattle.writer.proofs.count_digits.Given as goal
 
 abbrev pub invariant-loop-x : goal.invariant-loop-x

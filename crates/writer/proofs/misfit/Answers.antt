@@ -1,8 +1,7 @@
 -- The tests are the rules', in their order.
 use mathlib.Core.Path.{◌≡◌}
 use mathlib.Core.Bool.{not}
-use borrow.Author.Rules.{rules}
-use borrow.Author.Tests.{not-true, not-false, eq-eqb, ne_eqb}
+use borrow.Author.Tests.{eq-eqb, ne_eqb}
 use lib.Dec.{eqb}
 use lib.ListN.{length}
 use Rattle.dirf.specs.Bytes.{if◌then◌else◌}

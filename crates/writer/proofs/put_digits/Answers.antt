@@ -1,9 +1,8 @@
 -- The digits left to write, and behind them those written.
-use Prim.Native.Nat.{◌≤◌}
 use mathlib.Core.Path.{◌≡◌, refl, ap, ◌∙◌}
-use mathlib.Core.List.{[], ◌++◌}
+use mathlib.Core.List.{[]}
 use native.Mathlib.Omega.{arith}
-use lib.ListN.{length, drop, length-set}
+use lib.ListN.{length, length-set}
 use Rattle.dirf.specs.Numbers.{decimal}
 use Rattle.dirf.proofs.back.NumbersBack.{nothing_written}
 use Rattle.writer.proofs.Digits.{count_on, digit_put}

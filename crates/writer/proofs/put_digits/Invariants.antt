@@ -1,12 +1,9 @@
 -- The digits left to write, and behind them those written.
 use Prim.Native.Nat.{◌≤◌}
-use mathlib.Core.Path.{◌≡◌, refl, ap, ◌∙◌}
-use mathlib.Core.List.{[], ◌++◌}
-use native.Mathlib.Omega.{arith}
-use lib.ListN.{length, drop, length-set}
+use mathlib.Core.Path.{◌≡◌}
+use mathlib.Core.List.{◌++◌}
+use lib.ListN.{length, drop}
 use Rattle.dirf.specs.Numbers.{decimal}
-use Rattle.dirf.proofs.back.NumbersBack.{nothing_written}
-use Rattle.writer.proofs.Digits.{count_on, digit_put}
 use Rattle.writer.proofs.put_digits.Given as goal
 
 abbrev pub invariant-loop-x : goal.invariant-loop-x

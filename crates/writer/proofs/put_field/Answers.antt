@@ -1,12 +1,8 @@
 -- What is left of the field and its bar goes where the last byte ended.
-use Prim.Native.Nat.{◌+◌, ◌-◌, ◌≤◌}
-use mathlib.Core.Path.{◌≡◌, sym, ◌∙◌}
-use mathlib.Core.List.{[], ◌∷◌, ◌++◌}
+use mathlib.Core.Path.{sym, ◌∙◌}
 use native.Mathlib.Nat.{add-zero}
 use native.Mathlib.Omega.{arith}
-use lib.ListN.{length, drop, length-set}
-use lib.Seq.{sets}
-use Rattle.dirf.specs.Limits.{bar}
+use lib.ListN.{length-set}
 use Rattle.writer.proofs.Stores.{field_on, field_end}
 use Rattle.writer.proofs.put_field.Goals as goal
 

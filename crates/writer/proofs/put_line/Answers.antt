@@ -1,13 +1,12 @@
 -- What is left of the line goes where the last field ended.
-use Prim.Native.Nat.{◌+◌, ◌-◌, ◌≤◌}
-use mathlib.Core.Path.{◌≡◌, refl, sym, ap, ◌∙◌}
+use Prim.Native.Nat.{◌+◌}
+use mathlib.Core.Path.{refl, sym, ap, ◌∙◌}
 use mathlib.Core.List.{[], ◌∷◌, ◌++◌}
 use native.Mathlib.Numerals.{add-one}
 use native.Mathlib.Omega.{arith}
-use lib.ListN.{length, get_or, drop, length-set}
-use lib.Seq.{sets, length-sets}
+use lib.ListN.{length, get_or, length-set}
+use lib.Seq.{length-sets}
 use Rattle.dirf.specs.Limits.{bar}
-use Rattle.dirf.specs.LineWriter.{cut, sum, line_of}
 use Rattle.writer.proofs.Stores.{rest, rest_end, rest_sum, rest_length, rest_two, field_put}
 use Rattle.writer.proofs.put_line.Goals as goal
 

@@ -1,8 +1,7 @@
 -- The first three rules, then the contents, then the room.
 use mathlib.Core.Path.{◌≡◌, sym, ap, ◌∙◌}
-use borrow.Author.Rules.{rules}
 use borrow.Author.Tests.{eq-eqb, ne_eqb}
-use Rattle.dirf.specs.Rules.{Found, keeps, given, or_else}
+use Rattle.dirf.specs.Rules.{keeps, given, or_else}
 use Rattle.rules.specs.Findings.{finding_of}
 use Rattle.rules.proofs.Laws.{finding_keeps, finding_says}
 use Rattle.writer.specs.Answers.{contents_along, refusal_of}

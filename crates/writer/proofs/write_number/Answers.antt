@@ -1,6 +1,5 @@
 -- The two refusals in their order; else the digits.
 use native.Mathlib.Omega.{arith}
-use borrow.Author.Rules.{rules}
 use lib.ListN.{length}
 use Rattle.dirf.specs.Written.{output_after}
 use Rattle.writer.specs.Answers.{number_written}

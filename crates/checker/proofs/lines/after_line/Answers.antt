@@ -1,5 +1,4 @@
 -- Two tails: behind the bytes that were scanned, and behind the two that end them.
-use borrow.Author.Rules.{rules}
 use Rattle.fields.specs.Places.{scan_of}
 use Rattle.checker.specs.Lines.{after_line}
 use Rattle.checker.proofs.lines.after_line.Goals as goal

@@ -1,6 +1,5 @@
 -- Test by test, as the definition asks them.
 use borrow.Author.Tests.{eq-eqb, le-leb, lt-leb, ne_eqb}
-use borrow.Author.Rules.{rules}
 use Rattle.checker.proofs.lines.NextLine.{ended, by_second}
 use Rattle.checker.proofs.lines.end_of.Goals as goal
 

@@ -1,5 +1,4 @@
 -- An empty text has no last byte; else it is the one before the end.
-use borrow.Author.Rules.{rules}
 use Rattle.checker.proofs.lines.NextLine.{last_none, last_at_lem}
 use Rattle.checker.proofs.lines.ends_in_bar.Goals as goal
 

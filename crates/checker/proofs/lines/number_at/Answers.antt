@@ -1,5 +1,4 @@
 -- Too long, or by what ends it.
-use borrow.Author.Rules.{rules}
 use borrow.Author.Tests.{lt-ltb, le-ltb}
 use Rattle.dirf.specs.Limits.{line_limit}
 use Rattle.checker.specs.Lines.{number_at}

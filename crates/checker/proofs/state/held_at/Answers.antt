@@ -1,6 +1,5 @@
 -- Nothing holds an opening line; after them the walk outwards answers.
 use native.Mathlib.Omega.{arith}
-use borrow.Author.Rules.{rules}
 use borrow.Author.Tests.{lt-ltb, le-ltb}
 use Rattle.dirf.specs.Tree.{opening}
 use Rattle.checker.specs.State.{held_at}

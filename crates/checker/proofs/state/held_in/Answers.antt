@@ -1,9 +1,7 @@
 -- The answer is the answer for the open records down to the i-th.
-use Prim.Native.Nat.{suc, ◌-◌, ◌≤◌}
+use Prim.Native.Nat.{suc, ◌-◌}
 use mathlib.Core.Path.{◌≡◌, refl, sym, ap, ◌∙◌}
 use native.Mathlib.Omega.{arith}
-use borrow.Author.Rules.{rules}
-use Rattle.dirf.specs.Theorems.Belongs.{deepest}
 use Rattle.checker.specs.State.{held_in}
 use Rattle.checker.proofs.state.held_in.Goals as goal
 

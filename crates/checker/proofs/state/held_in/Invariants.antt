@@ -1,8 +1,6 @@
 -- The answer is the answer for the open records down to the i-th.
-use Prim.Native.Nat.{suc, ◌-◌, ◌≤◌}
-use mathlib.Core.Path.{◌≡◌, refl, sym, ap, ◌∙◌}
-use native.Mathlib.Omega.{arith}
-use borrow.Author.Rules.{rules}
+use Prim.Native.Nat.{◌≤◌}
+use mathlib.Core.Path.{◌≡◌}
 use Rattle.dirf.specs.Theorems.Belongs.{deepest}
 use Rattle.checker.specs.State.{held_in}
 use Rattle.checker.proofs.state.held_in.Given as goal

@@ -1,6 +1,5 @@
 -- A kind with no key, or one that did not stand below this line, keeps 20; else the keys are compared.
 use native.Mathlib.Omega.{arith}
-use borrow.Author.Rules.{rules}
 use borrow.Author.Tests.{lt-ltb, eq-eqb, ne_eqb}
 use Rattle.dirf.specs.Keys.{has_key}
 use Rattle.checker.specs.State.{stood_on, last_line, key_on}

@@ -1,5 +1,4 @@
 -- 21, then 20.
-use borrow.Author.Rules.{rules}
 use Rattle.dirf.specs.Rules.{given, or_else}
 use Rattle.rules.specs.Findings.{finding_of}
 use Rattle.checker.specs.State.{look_found}

@@ -6,7 +6,6 @@ use mathlib.Core.List.{[], ◌∷◌}
 use types.Run.{OneOf}
 use lib.Dec.{leb}
 use borrow.Author.Tests.{le-ltb, lt-ltb, ne_eqb}
-use borrow.Author.Rules.{rules}
 use Rattle.dirf.specs.Bytes.{bytes_opens}
 use Rattle.dirf.specs.Kinds.{PSE, pensions, kinds_opens}
 use Rattle.dirf.specs.Tree.{may_follow}

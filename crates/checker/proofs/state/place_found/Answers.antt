@@ -1,5 +1,4 @@
 -- 9, 10 and 12 in turn.
-use borrow.Author.Rules.{rules}
 use borrow.Author.Tests.{eq-eqb, ne_eqb}
 use Rattle.dirf.specs.Rules.{given, or_else}
 use Rattle.rules.specs.Findings.{finding_of}

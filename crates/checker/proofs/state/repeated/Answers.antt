@@ -1,5 +1,4 @@
 -- Only a kind that stands once can be repeated.
-use borrow.Author.Rules.{rules}
 use Rattle.checker.specs.State.{stood_on, repeated_on}
 use Rattle.checker.proofs.state.repeated.Goals as goal
 

@@ -1,6 +1,5 @@
 -- Test by test, as the definition asks them.
 use borrow.Author.Tests.{eq-eqb, ne_eqb, le-ltb, lt-ltb}
-use borrow.Author.Rules.{rules}
 use Rattle.checker.specs.State.{below_on}
 use Rattle.checker.proofs.state.stands_below.Goals as goal
 

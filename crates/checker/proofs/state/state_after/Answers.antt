@@ -1,6 +1,5 @@
 -- Each field is what its function gives.
 use native.Mathlib.Omega.{arith}
-use borrow.Author.Rules.{rules}
 use Rattle.checker.specs.State.{state_after}
 use Rattle.checker.proofs.state.state_after.Goals as goal
 

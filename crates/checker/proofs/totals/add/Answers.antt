@@ -1,7 +1,6 @@
 -- The place of the kind, if it is lent.
 use mathlib.Core.Path.{refl, sym}
 use native.Mathlib.Omega.{arith}
-use borrow.Author.Rules.{rules}
 use Rattle.checker.specs.Totals.{add_at}
 use Rattle.checker.proofs.Lent.{add_past}
 use Rattle.checker.proofs.totals.add.Goals as goal

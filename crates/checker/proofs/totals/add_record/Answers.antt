@@ -1,16 +1,14 @@
 -- From its first amount on, as many as its kind has.
 use mathlib.Core.Path.{◌≡◌, sym, ap, ap₂, ◌∙◌, subst}
 use native.Mathlib.Omega.{arith}
-use borrow.Author.Rules.{rules}
-use lib.ListN.{length, drop}
-use Rattle.dirf.specs.Bytes.{Text}
+use lib.ListN.{drop}
 use Rattle.dirf.specs.FieldReader.{field_start}
 use Rattle.dirf.specs.LineWriter.{sum}
 use Rattle.dirf.specs.Tables.{first_amount, amount_count, from_amounts}
 use Rattle.fields.specs.Places.{part_of, place_of}
 use Rattle.fields.specs.declared.Place.{Place}
 use Rattle.checker.specs.Totals.{add_at, sum_of, line_sum, Summable}
-use Rattle.checker.proofs.Lent.{add_past, add_none, add_length}
+use Rattle.checker.proofs.Lent.{add_past, add_none}
 use Rattle.checker.proofs.totals.add_record.Goals as goal
 
 pub returns-then-totals-eq0 : goal.returns-then-totals-eq0

@@ -1,12 +1,8 @@
 -- As many places as there are kinds, or as are lent.
 use Prim.Native.Nat.{◌-◌, ◌≤◌}
-use mathlib.Core.Path.{◌≡◌, refl, sym, ap, ◌∙◌}
-use native.Mathlib.Omega.{arith}
-use native.Mathlib.Numerals.{add-one}
-use lib.ListN.{length, set}
+use mathlib.Core.Path.{◌≡◌}
 use Rattle.kinds.specs.Kinds.{kinds}
-use Rattle.checker.specs.Totals.{put_from, totals_in}
-use Rattle.checker.proofs.Lent.{from_length, put_next, put_all}
+use Rattle.checker.specs.Totals.{put_from}
 use Rattle.checker.proofs.totals.clear.Given as goal
 
 abbrev pub invariant-loop-k : goal.invariant-loop-k

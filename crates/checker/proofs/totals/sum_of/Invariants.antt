@@ -1,9 +1,7 @@
 -- Byte by byte: what is read, and what is left, come to the whole sum, and nothing is ever over it.
-use Prim.Native.Nat.{◌+◌, ◌-◌, ◌*◌, ◌^◌, ◌≤◌, ◌<◌}
-use native.Mathlib.Omega.{arith}
-use lib.ListN.{length, get_or}
-use Rattle.checker.specs.Totals.{sum_of}
-use Rattle.checker.proofs.totals.Sums.{Run, run_start, run_inside, run_bar, run_digit, run_end}
+use Prim.Native.Nat.{◌-◌}
+use lib.ListN.{length}
+use Rattle.checker.proofs.totals.Sums.{Run}
 use Rattle.checker.proofs.totals.sum_of.Given as goal
 
 abbrev pub invariant-loop-left : goal.invariant-loop-left

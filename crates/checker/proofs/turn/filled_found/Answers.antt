@@ -1,5 +1,4 @@
 -- The number of fields, and then their contents; the identifier is what stands at the first place.
-use borrow.Author.Rules.{rules}
 use borrow.Author.Tests.{eq-eqb, ne_eqb}
 use Rattle.dirf.specs.Rules.{given, or_else}
 use Rattle.fields.specs.Places.{cell_at}

@@ -1,6 +1,5 @@
 -- 4, 5 or 6 stops the turn.
 use mathlib.Core.Path.{ap}
-use borrow.Author.Rules.{rules}
 use borrow.Author.Tests.{eq-eqb, ne_eqb}
 use Rattle.fields.specs.Places.{scan_of}
 use Rattle.fields.specs.declared.Scanned.{Scanned}

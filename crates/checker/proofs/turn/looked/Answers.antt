@@ -1,5 +1,4 @@
 -- The finding is that of the record's own fields 2 and 3, below its own parent.
-use borrow.Author.Rules.{rules}
 use Rattle.checker.specs.Turn.{looked_found}
 use Rattle.checker.proofs.turn.looked.Goals as goal
 

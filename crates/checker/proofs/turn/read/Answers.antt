@@ -1,6 +1,5 @@
 -- What is found stops the turn.
 use mathlib.Core.Path.{◌∙◌}
-use borrow.Author.Rules.{rules}
 use Rattle.checker.specs.Turn.{went, read_step}
 use Rattle.checker.proofs.turn.Stops.{stopped, kept, place_numbered, filled_numbered}
 use Rattle.checker.proofs.turn.read.Goals as goal

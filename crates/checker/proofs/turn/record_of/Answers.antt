@@ -1,7 +1,6 @@
 -- The kind by the identifier, the place by the kind.
 use Prim.Native.Nat.{◌<◌}
 use mathlib.Core.Path.{sym, subst}
-use borrow.Author.Rules.{rules}
 use Rattle.kinds.specs.Kinds.{kinds}
 use Rattle.layout.proofs.Laws.{kind_small}
 use Rattle.layout.proofs.Editions.{laid_out_lem}

@@ -1,5 +1,4 @@
 -- A line without a bar at its end is refused; any other is read as a record.
-use borrow.Author.Rules.{rules}
 use Rattle.checker.specs.Turn.{record_step}
 use Rattle.checker.proofs.turn.recorded.Goals as goal
 

@@ -1,5 +1,4 @@
 -- A turn that stops with a refusal.
-use borrow.Author.Rules.{rules}
 use Rattle.checker.proofs.turn.refuse.Goals as goal
 
 pub returns : goal.returns

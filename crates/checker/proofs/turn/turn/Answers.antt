@@ -1,6 +1,5 @@
 use borrow.Author.Tests.{le-leb, lt-leb}
 use Rattle.checker.specs.Turn.{turn_of}
-use borrow.Author.Rules.{rules}
 use Rattle.checker.proofs.turn.turn.Goals as goal
 
 pub returns-then-done : goal.returns-then-done
