@@ -3,7 +3,6 @@ use Prim.Native.Nat.{ℕ}
 use mathlib.Core.Path.{◌≡◌, sym, ap, ◌∙◌}
 use mathlib.Core.Bool.{Bool, true, false, ◌&&◌}
 use mathlib.Core.List.{List}
-use borrow.Author.Rules.{rules}
 use Rattle.dirf.specs.Kinds.{is_beneficiary}
 use Rattle.dirf.specs.Search.{kind_in}
 use Rattle.search.specs.Answers.{entry_in}

@@ -5,7 +5,6 @@ use mathlib.Core.Bool.{◌&&◌}
 use mathlib.Core.List.{List}
 use lib.Dec.{leb}
 use lib.ListN.{length}
-use borrow.Author.Rules.{rules}
 use borrow.Author.Tests.{le-leb, lt-leb}
 use Rattle.dirf.specs.Bytes.{Text}
 use Rattle.dirf.specs.Search.{entries_in, is_within}

@@ -1,6 +1,5 @@
 -- The field of the part.
 use mathlib.Core.Path.{ap, ◌∙◌}
-use borrow.Author.Rules.{rules}
 use Rattle.dirf.specs.FieldReader.{field_of}
 use Rattle.search.specs.Answers.{key_on}
 use Rattle.search.proofs.key_at.Goals as goal

@@ -6,8 +6,7 @@ use mathlib.Core.List.{List, []}
 use native.Mathlib.Omega.{arith}
 use lib.Dec.{leb}
 use lib.ListN.{length}
-use borrow.Author.Rules.{rules}
-use borrow.Author.Tests.{le-leb, lt-leb, eq-eqb, ne_eqb, leb-true, not-true, not-false}
+use borrow.Author.Tests.{le-leb, lt-leb, eq-eqb, ne_eqb, leb-true}
 use Rattle.dirf.specs.Bytes.{Text}
 use Rattle.dirf.specs.Kinds.{IDREC}
 use Rattle.dirf.specs.Search.{entries_in, kind_in, start_in, length_in, last_in, is_within, no_way, is_idrec, search_from, search_in}

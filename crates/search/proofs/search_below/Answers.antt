@@ -1,10 +1,8 @@
 -- What is left to be searched comes to what the whole search comes to, and there are steps for all of it.
-use Prim.Native.Nat.{ℕ, ◌+◌, ◌-◌, ◌≤◌, ◌<◌}
+use Prim.Native.Nat.{◌+◌, ◌<◌}
 use mathlib.Core.Path.{◌≡◌, refl, sym, ap, ◌∙◌}
-use mathlib.Core.Bool.{true, false, ◌&&◌, not}
+use mathlib.Core.Bool.{true, ◌&&◌}
 use native.Mathlib.Omega.{arith}
-use borrow.Author.Rules.{rules}
-use borrow.Author.Tests.{not-true, not-false}
 use Rattle.dirf.specs.Bytes.{is_in, less}
 use Rattle.dirf.specs.Kinds.{companies, is_beneficiary}
 use Rattle.dirf.specs.Search.{entries_in, kind_in, is_within, stops_by, search_from}

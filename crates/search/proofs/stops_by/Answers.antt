@@ -1,5 +1,4 @@
 -- At the line, or at none.
-use borrow.Author.Rules.{rules}
 use Rattle.dirf.specs.Search.{stops_by}
 use Rattle.search.proofs.stops_by.Goals as goal
 

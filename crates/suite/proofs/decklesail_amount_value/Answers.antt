@@ -1,6 +1,5 @@
 -- The value of the reading.
 use mathlib.Core.Path.{ap, ◌∙◌}
-use borrow.Author.Rules.{rules}
 use Rattle.suite.proofs.decklesail_amount_value.Goals as goal
 
 pub returns : goal.returns

@@ -1,6 +1,5 @@
 -- One number of the check's answer.
 use mathlib.Core.Path.{ap}
-use borrow.Author.Rules.{rules}
 use Rattle.checker.specs.Answers.{answer_of}
 use Rattle.suite.proofs.decklesail_check_field.Goals as goal
 

@@ -1,6 +1,5 @@
 -- The number of the edition that line 1 picks.
 use mathlib.Core.Path.{ap, ◌∙◌}
-use borrow.Author.Rules.{rules}
 use Rattle.dirf.specs.Editions.{year_of}
 use Rattle.suite.proofs.decklesail_edition.Goals as goal
 

@@ -1,6 +1,5 @@
 -- One entry of the place.
 use mathlib.Core.Path.{ap}
-use borrow.Author.Rules.{rules}
 use Rattle.fields.specs.Places.{place_of}
 use Rattle.suite.proofs.decklesail_field_start.Goals as goal
 

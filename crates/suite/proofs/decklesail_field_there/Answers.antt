@@ -1,7 +1,6 @@
 -- Yes is 1 and no is 0.
 use mathlib.Core.Path.{sym, ap, ◌∙◌}
 use mathlib.Core.Bool.{Bool, cond}
-use borrow.Author.Rules.{rules}
 use Rattle.suite.proofs.decklesail_field_there.Goals as goal
 
 pub returns-then-field_there : goal.returns-then-field_there

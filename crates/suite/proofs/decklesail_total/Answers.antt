@@ -4,7 +4,6 @@ use mathlib.Core.Path.{◌≡◌, refl, sym, ap, ◌∙◌}
 use mathlib.Core.Bool.{false}
 use mathlib.Core.List.{List}
 use native.Mathlib.Omega.{arith}
-use borrow.Author.Rules.{rules}
 use lib.ListN.{length, get_or, get_or-eq_default}
 use Rattle.dirf.specs.Bytes.{Text, bytes_opens}
 use Rattle.dirf.specs.Kinds.{values, reimbursements, is_value, kinds_opens}

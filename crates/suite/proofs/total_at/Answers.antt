@@ -1,7 +1,6 @@
 -- Past the last place there is nothing.
 use mathlib.Core.Path.{sym}
 use native.Mathlib.Omega.{arith}
-use borrow.Author.Rules.{rules}
 use lib.ListN.{get_or-eq_default}
 use Rattle.suite.proofs.total_at.Goals as goal
 
