@@ -1,4 +1,5 @@
 -- The numbers of entries in front of a table: one entry more behind them, and the last line of a group.
+use Rattle.std.specs.Prelude.{if◌then◌else◌}
 use Prim.Native.Nat.{ℕ, zero, suc, ◌+◌, ◌-◌, ◌*◌, ◌/◌, ◌≤◌, ◌<◌}
 use mathlib.Core.Path.{◌≡◌, refl, sym, ap, ap₂, ◌∙◌}
 use mathlib.Core.Logic.{◌≢◌}
@@ -9,7 +10,7 @@ use lib.Dec.{eqb}
 use lib.ListN.{length, set, take, drop, length-append, length-take}
 use lib.Seq.{sets-eq, set-append_left, take-append_seam, drop-append-add, drop-drop, take_all, take-append-le, length_front, length-take-le}
 use borrow.Author.Tests.{eq-eqb, ne_eqb, lt-ltb, le-ltb, le-leb, lt-leb}
-use Rattle.dirf.specs.Bytes.{if◌then◌else◌, Text, is_in, some}
+use Rattle.dirf.specs.Bytes.{Text, is_in, some}
 use Rattle.dirf.specs.Limits.{numbers_an_entry}
 use Rattle.dirf.specs.Edition.{Edition}
 use Rattle.dirf.specs.Tree.{Rec, Open}
@@ -153,7 +154,7 @@ module _ (t : List ℕ) where
       ∙ put_above f' g es v lines kinds rest few stack.1
       (λ j x y. is j x y ∙ either j (eqb j o.number) (is_in j (map (λ o. o.number) outer)))
     where
-      either : (j : ℕ) (p q : Bool) → (if p || q then v else f j) ≡ (if q then v else if p then v else f j)
+      either : (j : ℕ) (p q : Bool) → (if p || q then v else f j) ≡ (if q then v else (if p then v else f j))
       either j true true = refl
       either j true false = refl
       either j false true = refl

@@ -1,6 +1,6 @@
 -- The line that comes next, as the code reads it.
-use Rattle.std.specs.Prelude.{ℕ, [], ◌∷◌, eqb, ltb, length, drop}
-use Rattle.dirf.specs.Bytes.{if◌then◌else◌, Text}
+use Rattle.std.specs.Prelude.{ℕ, [], ◌∷◌, eqb, ltb, length, drop, if◌then◌else◌}
+use Rattle.dirf.specs.Bytes.{Text}
 use Rattle.dirf.specs.Limits.{line_limit, LF}
 use Rattle.dirf.specs.Lines.{clean, unclean}
 use Rattle.dirf.specs.FieldReader.{field_of}
@@ -10,7 +10,7 @@ use Rattle.dirf.specs.Edition.{Edition, kind_of}
 unfoldable pub end_of : Text → ℕ
 end_of [] = 5
 end_of (b ∷ []) = if eqb b LF then 6 else 5
-end_of (b ∷ c ∷ s) = if eqb b LF then 6 else if eqb c LF then 0 else 6
+end_of (b ∷ c ∷ s) = if eqb b LF then 6 else (if eqb c LF then 0 else 6)
 
 -- 4, 5 and 6, else 0
 unfoldable pub number_at : Text → ℕ

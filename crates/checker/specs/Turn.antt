@@ -1,6 +1,6 @@
 -- One line over the state, with the edition and the lent tables, part by part in document 01's order.
-use Rattle.std.specs.Prelude.{ℕ, ◌+◌, ◌≤◌, ◌<◌, true, false, not, List, eqb, leb, length, get_or, drop}
-use Rattle.dirf.specs.Bytes.{if◌then◌else◌, Text, ends_with}
+use Rattle.std.specs.Prelude.{ℕ, ◌+◌, ◌≤◌, ◌<◌, true, false, not, List, eqb, leb, length, get_or, drop, if◌then◌else◌}
+use Rattle.dirf.specs.Bytes.{Text, ends_with}
 use Rattle.dirf.specs.Limits.{bar, line_limit, lines_limit}
 use Rattle.dirf.specs.Edition.{Edition, kind_of}
 use Rattle.dirf.specs.Lines.{clean}
@@ -98,6 +98,6 @@ unfoldable pub turn_of : Edition → List ℕ → List (List ℕ) → Text → S
 turn_of e rows below file st =
     if leb (length file) st.at
     then (if st.done then halt_at (record { number = 0; line = st.count; field = 0; entries = st.count }) else halt st 1 0)
-    else if st.done then halt st 2 0
-    else if leb lines_limit st.count then halt st 3 0
-    else line_step e rows below file st
+    else (if st.done then halt st 2 0
+    else (if leb lines_limit st.count then halt st 3 0
+    else line_step e rows below file st))

@@ -1,4 +1,5 @@
 -- The field that the conditions of a kind name, by what their tests answer: of a kind that has none, and of DECPF.
+use Rattle.std.specs.Prelude.{if◌then◌else◌}
 use Prim.Native.Nat.{ℕ}
 use mathlib.Core.Path.{◌≡◌, refl}
 use mathlib.Core.Bool.{Bool, true, false, ◌&&◌, not, and_assoc}
@@ -7,7 +8,7 @@ use native.Mathlib.Omega.{arith}
 use lib.Dec.{eqb}
 use lib.ListN.{length}
 use borrow.Author.Tests.{ne_eqb}
-use Rattle.dirf.specs.Bytes.{if◌then◌else◌, Text, some, is_in, is_empty}
+use Rattle.dirf.specs.Bytes.{Text, some, is_in, is_empty}
 use Rattle.dirf.specs.Kinds.{DECPF, PROC, RRA}
 use Rattle.dirf.specs.Lines.{field}
 use Rattle.dirf.specs.Conditions.{special, condition_order, conditions_opens}
@@ -28,7 +29,7 @@ no_conditions k cells h i = rw (h, i)
 -- the field by what the tests of DECPF answer
 unfoldable pub conditioned : Bool → Bool → Bool → Bool → Bool → ℕ
 conditioned special date type death estate =
-    if not special then 0 else if date then 9 else if type then 10 else if death then 11 else if estate then 0 else 13
+    if not special then 0 else (if date then 9 else (if type then 10 else (if death then 11 else (if estate then 0 else 13))))
 
 four : (a b c d : Bool) → Found
 four a b c d = or_else (given 19 9 a) (or_else (given 19 10 b) (or_else (given 19 11 c) (or_else (given 19 13 d) keeps)))

@@ -1,10 +1,11 @@
 -- The field that the conditions of PROC and RRA name, by what field 4 says of the lawyer.
+use Rattle.std.specs.Prelude.{if◌then◌else◌}
 use Prim.Native.Nat.{ℕ}
 use mathlib.Core.Path.{◌≡◌, refl, sym, ◌∙◌}
 use mathlib.Core.Bool.{Bool, true, false, ◌&&◌, or-false}
 use mathlib.Core.List.{List, [], ◌∷◌}
 use types.Run.{OneOf}
-use Rattle.dirf.specs.Bytes.{if◌then◌else◌, Text, some, is_in, same}
+use Rattle.dirf.specs.Bytes.{Text, some, is_in, same}
 use Rattle.dirf.specs.Kinds.{PROC, RRA}
 use Rattle.dirf.specs.Lines.{field}
 use Rattle.dirf.specs.Conditions.{Lawyer, person, firm, nobody, lawyers, of_lawyer, lawyers_number_wrong, lawyers_name_too_long}
@@ -22,14 +23,14 @@ pub as_of_proc : (cells : List Text) {k : ℕ} → OneOf (PROC ∷ RRA ∷ []) k
 unfolding is_in some ask_conditions condition_order broken_field
 as_of_proc cells = keys (λ k. broken_field k cells) (broken_field PROC cells) PROC (RRA ∷ []) refl
 
-two : (a b : Bool) → field_of (or_else (given 19 5 a) (or_else (given 19 6 b) keeps)) ≡ (if a then 5 else if b then 6 else 0)
+two : (a b : Bool) → field_of (or_else (given 19 5 a) (or_else (given 19 6 b) keeps)) ≡ (if a then 5 else (if b then 6 else 0))
 unfolding given or_else field_of
 two true b = refl
 two false true = refl
 two false false = refl
 
 lawyer_field : (cells : List Text)
-    → broken_field PROC cells ≡ (if lawyers_number_wrong cells then 5 else if lawyers_name_too_long cells then 6 else 0)
+    → broken_field PROC cells ≡ (if lawyers_number_wrong cells then 5 else (if lawyers_name_too_long cells then 6 else 0))
 unfolding is_in some ask_conditions condition_order given or_else broken_field
 lawyer_field cells = two (lawyers_number_wrong cells) (lawyers_name_too_long cells)
 

@@ -1,6 +1,6 @@
 -- The conditions of a kind, as the code answers them.
-use Rattle.std.specs.Prelude.{ℕ, Bool, ◌&&◌, not, List, eqb, ltb, length}
-use Rattle.dirf.specs.Bytes.{if◌then◌else◌, Text, bytes, same}
+use Rattle.std.specs.Prelude.{ℕ, Bool, ◌&&◌, not, List, eqb, ltb, length, if◌then◌else◌}
+use Rattle.dirf.specs.Bytes.{Text, bytes, same}
 use Rattle.dirf.specs.Lines.{field}
 use Rattle.dirf.specs.Conditions.{condition_order}
 use Rattle.dirf.specs.Rules.{Found, keeps, breaks, ask_conditions}
@@ -25,4 +25,4 @@ other_digits number digits = not (eqb number 0) && not (eqb number digits)
 -- where the lawyer's kind means so many digits in field 5 and up to so many bytes in 6: the lower one that does not agree
 unfoldable pub lawyers_field : ℕ → ℕ → List Text → ℕ
 lawyers_field digits most cells =
-    if other_digits (length (field 5 cells)) digits then 5 else if ltb most (length (field 6 cells)) then 6 else 0
+    if other_digits (length (field 5 cells)) digits then 5 else (if ltb most (length (field 6 cells)) then 6 else 0)

@@ -1,6 +1,6 @@
 -- What the desk program answers.
-use Rattle.std.specs.Prelude.{ltb, length}
-use Rattle.dirf.specs.Bytes.{if◌then◌else◌, Text}
+use Rattle.std.specs.Prelude.{ltb, length, if◌then◌else◌}
+use Rattle.dirf.specs.Bytes.{Text}
 use Rattle.dirf.specs.Limits.{desk_bytes, desk_entries}
 use Rattle.dirf.specs.Check.{answer_to}
 use Rattle.checker.specs.Answers.{answer_of}

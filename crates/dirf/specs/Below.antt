@@ -1,7 +1,6 @@
 -- Which record may stand directly below which: the structure lists 2.1 (DECPF) and 2.2 (DECPJ) of 004, and of 000 for the older
 -- edition, records of the base only. 000's indents show what stands under INFPC and INFPA, its prose what stands where below PSE.
-use Rattle.std.specs.Prelude.{ℕ, List, [], ◌∷◌, eqb}
-use Rattle.dirf.specs.Bytes.{if◌then◌else◌}
+use Rattle.std.specs.Prelude.{ℕ, List, [], ◌∷◌, eqb, if◌then◌else◌}
 use Rattle.dirf.specs.Kinds.{DECPF, DECPJ, IDREC, BPFDEC, RTRT, RTPO, RTDP, RTDS, RTIRF, CJAC, CJAA, ESRT, ESPO, ESDP, ESDS}
 use Rattle.dirf.specs.Kinds.{ESIR, ESDJ, INFPC, RTPP, RTFA, RTSP, RTEP, ESPP, ESFA, ESSP, ESEP, INFPA, RTPA, ESPA, RIDAC, RIIRP}
 use Rattle.dirf.specs.Kinds.{RIAP, RIMOG, RIP65, RIBMR, RICAP, RIRPC, RIL96, RIPTS, RIJMRE, RIO, BPJDEC, FCI, BPFFCI, BPJFCI}

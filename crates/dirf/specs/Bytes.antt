@@ -1,12 +1,7 @@
 -- Bytes and text, and what is asked of them before anything is known of a record.
-use Rattle.std.specs.Prelude.{ℕ, Bool, true, false, ◌&&◌, ◌||◌, List, [], ◌∷◌, eqb, ltb, leb}
+use Rattle.std.specs.Prelude.{ℕ, Bool, true, false, ◌&&◌, ◌||◌, List, [], ◌∷◌, eqb, ltb, leb, if◌then◌else◌}
 use Prim.Native.String.{String}
 use Prim.Native.Char.{code}
-
-infixr 1 if◌then◌else◌
-abbrev pub if◌then◌else◌ {ℓ} : {A : Type ℓ} → Bool → A → A → A
-if◌then◌else◌ true a b = a
-if◌then◌else◌ false a b = b
 
 -- 01, "Lines and limits": "One byte is one character." A text is its bytes.
 abbrev pub Text : Type 0

@@ -1,6 +1,6 @@
 -- The check digits of a CPF and of a CNPJ: the public modulo 11 rule, over a list of weights.
-use Rattle.std.specs.Prelude.{ℕ, ◌+◌, ◌-◌, ◌*◌, ◌%◌, Bool, ◌&&◌, List, [], ◌∷◌, eqb, ltb, length, get_or}
-use Rattle.dirf.specs.Bytes.{if◌then◌else◌, Text}
+use Rattle.std.specs.Prelude.{ℕ, ◌+◌, ◌-◌, ◌*◌, ◌%◌, Bool, ◌&&◌, List, [], ◌∷◌, eqb, ltb, length, get_or, if◌then◌else◌}
+use Rattle.dirf.specs.Bytes.{Text}
 
 -- 02, A1: "CPF weights 10 down to 2, then 11 down to 2"
 abbrev pub weights_of_CPF : List ℕ

@@ -1,7 +1,7 @@
 -- An edition of the layout: all that the published documents fix, as one argument. There are two: of 2025, and the older one of
 -- document 000, which late filers use.
-use Rattle.std.specs.Prelude.{ℕ, Bool, ◌&&◌, not, List, [], ◌∷◌, eqb}
-use Rattle.dirf.specs.Bytes.{if◌then◌else◌, Text, same, some, is_in, lookup}
+use Rattle.std.specs.Prelude.{ℕ, Bool, ◌&&◌, not, List, [], ◌∷◌, eqb, if◌then◌else◌}
+use Rattle.dirf.specs.Bytes.{Text, same, some, is_in, lookup}
 use Rattle.dirf.specs.Kinds.{names2025, names2022, is_later}
 use Rattle.dirf.specs.Row.{Row}
 use Rattle.dirf.specs.Layout.{layout2025, layout2022}

@@ -1,6 +1,6 @@
 -- Which of the two editions a file has.
-use Rattle.std.specs.Prelude.{ℕ, List, [], ◌∷◌}
-use Rattle.dirf.specs.Bytes.{if◌then◌else◌, Text, same}
+use Rattle.std.specs.Prelude.{ℕ, List, [], ◌∷◌, if◌then◌else◌}
+use Rattle.dirf.specs.Bytes.{Text, same}
 use Rattle.dirf.specs.Layout.{mark2022}
 use Rattle.dirf.specs.Edition.{Edition, edition2025, edition2022}
 use Rattle.dirf.specs.Lines.{Piece, pieces, fields, field}

@@ -1,7 +1,7 @@
 -- Keys and order, and what stood before under the same parent.
-use Rattle.std.specs.Prelude.{ℕ, Bool, true, false, ◌&&◌, ◌||◌, not, List, [], ◌∷◌, map, eqb, ltb, length}
+use Rattle.std.specs.Prelude.{ℕ, Bool, true, false, ◌&&◌, ◌||◌, not, List, [], ◌∷◌, map, eqb, ltb, length, if◌then◌else◌}
 use Rattle.std.proofs.Math.Option.{Option, none, some}
-use Rattle.dirf.specs.Bytes.{if◌then◌else◌, Text, is_in, same, less}
+use Rattle.dirf.specs.Bytes.{Text, is_in, same, less}
 use Rattle.dirf.specs.Kinds.{IDREC, INFPC, INFPA, FCI, PROC, RRA, SCP, OPSE, TPSE, RTPSE, DTPSE, RDTPSE, reimbursements}
 use Rattle.dirf.specs.Kinds.{is_beneficiary}
 use Rattle.dirf.specs.Lines.{fields, field}
@@ -18,7 +18,7 @@ by_one_field = IDREC ∷ FCI ∷ SCP ∷ INFPC ∷ OPSE ∷ TPSE ∷ RTPSE ∷ R
 
 -- The numbers of the key's fields; "CPF or CNPJ for beneficiaries". A kind without a key has none.
 unfoldable pub key_fields : ℕ → List ℕ
-key_fields k = if is_in k by_two_fields then 2 ∷ 3 ∷ [] else if is_in k by_one_field || is_beneficiary k then 2 ∷ [] else []
+key_fields k = if is_in k by_two_fields then 2 ∷ 3 ∷ [] else (if is_in k by_one_field || is_beneficiary k then 2 ∷ [] else [])
 
 unfoldable pub has_key : ℕ → Bool
 has_key k = ltb 0 (length (key_fields k))

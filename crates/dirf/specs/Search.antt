@@ -1,7 +1,7 @@
 -- The search: one CPF under one IDREC, from one beneficiary to the next by the fifth number of their entries. It takes every file and
 -- every table of numbers; what it means for an accepted file with its own table is in `Theorems/Found`.
-use Rattle.std.specs.Prelude.{ℕ, zero, suc, ◌+◌, ◌-◌, ◌*◌, ◌/◌, Bool, ◌&&◌, List, eqb, ltb, leb, length, get_or, take, drop}
-use Rattle.dirf.specs.Bytes.{if◌then◌else◌, Text, is_in, same, less}
+use Rattle.std.specs.Prelude.{ℕ, zero, suc, ◌+◌, ◌-◌, ◌*◌, ◌/◌, Bool, ◌&&◌, List, eqb, ltb, leb, length, get_or, take, drop, if◌then◌else◌}
+use Rattle.dirf.specs.Bytes.{Text, is_in, same, less}
 use Rattle.dirf.specs.Kinds.{IDREC, companies, is_beneficiary}
 use Rattle.dirf.specs.Limits.{numbers_an_entry}
 use Rattle.dirf.specs.FieldReader.{field_of}
@@ -57,11 +57,11 @@ unfoldable pub search_from : Text → List ℕ → Text → ℕ → ℕ → ℕ 
 search_from file t key end zero n looked = stops_at 0 looked
 search_from file t key end (suc steps) n looked =
     if ltb end n then stops_at 0 looked
-    else if is_beneficiary (kind_in t n) && is_within file t n
+    else (if is_beneficiary (kind_in t n) && is_within file t n
     then (if is_in (kind_in t n) companies then stops_at 0 (looked + 1)
-    else if less (key_in file t n) key then search_from file t key end steps (last_in t n + 1) (looked + 1)
-    else stops_by n (key_in file t n) key (looked + 1))
-    else no_way
+    else (if less (key_in file t n) key then search_from file t key end steps (last_in t n + 1) (looked + 1)
+    else stops_by n (key_in file t n) key (looked + 1)))
+    else no_way)
 
 -- "the line asked for is no IDREC entry"
 unfoldable pub is_idrec : List ℕ → ℕ → Bool

@@ -1,6 +1,6 @@
 -- What is proved once over the tables, by computed tests.
-use Rattle.std.specs.Prelude.{ℕ, suc, ◌+◌, ◌≤◌, max, ◌≡◌, Bool, true, false, ◌&&◌, ◌||◌, not, List, [], ◌∷◌, ◌++◌, map, leb, ltb, eqb, length, drop}
-use Rattle.dirf.specs.Bytes.{if◌then◌else◌, Text, every, is_in}
+use Rattle.std.specs.Prelude.{ℕ, suc, ◌+◌, ◌≤◌, max, ◌≡◌, Bool, true, false, ◌&&◌, ◌||◌, not, List, [], ◌∷◌, ◌++◌, map, leb, ltb, eqb, length, drop, if◌then◌else◌}
+use Rattle.dirf.specs.Bytes.{Text, every, is_in}
 use Rattle.dirf.specs.Limits.{line_limit}
 use Rattle.dirf.specs.Kinds.{IDREC, RIL96, RIPTS, RIJMRE, RIRSR, RIO, alone, blocks, beneficiaries, pensions, values, plan}
 use Rattle.dirf.specs.Kinds.{reimbursements, later, is_value}
@@ -64,7 +64,7 @@ unfoldable pub first_amount : ℕ → ℕ
 first_amount k = if is_in k reimbursements then 4 else 2
 
 unfoldable pub amount_count : ℕ → ℕ
-amount_count k = if is_in k monthly2025 then 13 else if is_in k yearly then 1 else if is_in k reimbursements then 2 else 0
+amount_count k = if is_in k monthly2025 then 13 else (if is_in k yearly then 1 else (if is_in k reimbursements then 2 else 0))
 
 -- a line of kind k from its first amount on
 abbrev pub from_amounts : ℕ → Text → Text

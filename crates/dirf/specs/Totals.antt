@@ -1,6 +1,6 @@
 -- Totals by kind of value record, in centavos. 02, A7: "Before transmitting, the pay office compares our totals with the ledger."
-use Rattle.std.specs.Prelude.{ℕ, ◌+◌, Bool, true, false, ◌&&◌, List, [], ◌∷◌, map, eqb, length, take}
-use Rattle.dirf.specs.Bytes.{if◌then◌else◌, Text}
+use Rattle.std.specs.Prelude.{ℕ, ◌+◌, Bool, true, false, ◌&&◌, List, [], ◌∷◌, map, eqb, length, take, if◌then◌else◌}
+use Rattle.dirf.specs.Bytes.{Text}
 use Rattle.dirf.specs.Kinds.{is_value}
 use Rattle.dirf.specs.Row.{Row, Holds, identifier, amount, months, ddd, telephone, cpf, cnpj, cpfOrCnpj, plain, one_of}
 use Rattle.dirf.specs.Edition.{Edition, rows_of}

@@ -1,7 +1,7 @@
 -- The tree: which record may stand where, and whose it is.
-use Rattle.std.specs.Prelude.{ℕ, suc, Bool, true, ◌&&◌, ◌||◌, not, List, [], ◌∷◌, eqb, ltb, leb, length, get_or}
+use Rattle.std.specs.Prelude.{ℕ, suc, Bool, true, ◌&&◌, ◌||◌, not, List, [], ◌∷◌, eqb, ltb, leb, length, get_or, if◌then◌else◌}
 use Rattle.std.proofs.Math.Option.{Option, none, some}
-use Rattle.dirf.specs.Bytes.{if◌then◌else◌, Text, is_in, lookup}
+use Rattle.dirf.specs.Bytes.{Text, is_in, lookup}
 use Rattle.dirf.specs.Kinds.{Dirf, RESPO, declarants, IDREC, FCI, PROC, RRA, BPFDEC, BPJDEC, BPFFCI, BPJFCI, BPFPROC}
 use Rattle.dirf.specs.Kinds.{BPJPROC, BPFRRA, INFPA, ESPA, PSE, FIMDirf, pensions, opens_nothing}
 use Rattle.dirf.specs.Edition.{Edition}

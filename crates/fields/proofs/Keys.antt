@@ -1,4 +1,5 @@
 -- The key of a kind: both of fields 2 and 3, the first of them, or none. Only a key of one field can be a reimbursement's.
+use Rattle.std.specs.Prelude.{if◌then◌else◌}
 use Prim.Native.Nat.{ℕ, ◌≤◌}
 use mathlib.Core.Path.{◌≡◌, refl}
 use mathlib.Core.Bool.{Bool, true, false, ◌&&◌, ◌||◌, not, and-true, and-false, or-false, true≢false}
@@ -7,7 +8,7 @@ use native.Mathlib.Omega.{arith}
 use lib.Dec.{eqb, ltb}
 use lib.ListN.{length, take}
 use borrow.Author.Tests.{not-true}
-use Rattle.dirf.specs.Bytes.{if◌then◌else◌, Text, is_in, same, less, bytes_opens}
+use Rattle.dirf.specs.Bytes.{Text, is_in, same, less, bytes_opens}
 use Rattle.dirf.specs.Kinds.{is_beneficiary, reimbursements, kinds_opens}
 use Rattle.dirf.specs.Lines.{field}
 use Rattle.dirf.specs.Keys.{by_two_fields, by_one_field, key_fields, fewer_digits_first, key_of, key_less}

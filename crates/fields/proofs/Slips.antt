@@ -1,12 +1,13 @@
 -- 01, "Where earlier checkers went wrong": "Comparing process numbers as numbers, or a CPF without its zeros." No edit of `key_less` is
 -- such a program and keeps its shape. So this stands in for one: where such a program answers otherwise, the contract excludes its answer.
+use Rattle.std.specs.Prelude.{if◌then◌else◌}
 use Prim.Native.Nat.{ℕ}
 use mathlib.Core.Path.{◌≡◌, sym, ◌∙◌}
 use mathlib.Core.Bool.{Bool, true≢false}
 use mathlib.Core.Logic.{◌≢◌}
 use mathlib.Core.List.{[], ◌∷◌}
 use lib.Dec.{eqb, ltb}
-use Rattle.dirf.specs.Bytes.{if◌then◌else◌, Text, bytes, less, bytes_opens}
+use Rattle.dirf.specs.Bytes.{Text, bytes, less, bytes_opens}
 use Rattle.dirf.specs.Kinds.{PROC, BPFSCP, kinds_opens}
 use Rattle.dirf.specs.Lines.{fields, lines_opens}
 use Rattle.dirf.specs.Numbers.{value_of, numbers_opens}

@@ -1,6 +1,6 @@
 -- Where the fields of a line stand: starts and lengths, by value.
-use Rattle.std.specs.Prelude.{ℕ, zero, suc, ◌+◌, ◌-◌, min, List, [], ◌∷◌, eqb, length, get_or, take, drop, set, replicate}
-use Rattle.dirf.specs.Bytes.{if◌then◌else◌, Text}
+use Rattle.std.specs.Prelude.{ℕ, zero, suc, ◌+◌, ◌-◌, min, List, [], ◌∷◌, eqb, length, get_or, take, drop, set, replicate, if◌then◌else◌}
+use Rattle.dirf.specs.Bytes.{Text}
 use Rattle.dirf.specs.Limits.{bar}
 use Rattle.dirf.specs.FieldReader.{field_there, field_start, field_length}
 use Rattle.dirf.specs.Keys.{key_of}

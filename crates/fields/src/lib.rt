@@ -1,8 +1,8 @@
 // The field reader, the places of a line's fields, and the order of keys.
 #![tactic(auto)]
 
-ghost use Rattle.std.specs.Prelude.{◌≡◌, [], ◌∷◌, ◌+◌, ◌≤◌, ◌<◌, min, length, drop, set};
-ghost use Rattle.dirf.specs.Bytes.{if◌then◌else◌, is_in, same as sameText, less as lessText};
+ghost use Rattle.std.specs.Prelude.{◌≡◌, [], ◌∷◌, ◌+◌, ◌≤◌, ◌<◌, min, length, drop, set, if◌then◌else◌};
+ghost use Rattle.dirf.specs.Bytes.{is_in, same as sameText, less as lessText};
 ghost use Rattle.dirf.specs.Kinds.{reimbursements};
 ghost use Rattle.dirf.specs.Lines.{is_line_end, fields as fields_of};
 ghost use Rattle.dirf.specs.FieldReader.{field_there, field_of, field_start};

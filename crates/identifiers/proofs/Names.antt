@@ -1,14 +1,15 @@
 -- Which identifier a text can be: every one is found, and nothing else is. One law for where one is left, one for where none is.
+use Rattle.std.specs.Prelude.{if◌then◌else◌}
 use Prim.Native.Nat.{ℕ, suc, ◌+◌}
 use mathlib.Core.Path.{◌≡◌, refl, sym, ap, ◌∙◌, subst}
-use mathlib.Core.Bool.{Bool, true, false, ◌||◌, not, true≢false}
+use mathlib.Core.Bool.{Bool, cond, true, false, ◌||◌, not, true≢false}
 use mathlib.Core.List.{List, [], ◌∷◌, map}
 use native.Mathlib.Nat.{add-zero, zero-add, add-suc, suc-add}
 use native.Mathlib.Omega.{arith}
 use lib.Dec.{eqb}
 use lib.ListN.{length, get_or, drop}
 use borrow.Author.Tests.{eq-eqb}
-use Rattle.dirf.specs.Bytes.{if◌then◌else◌, Text, every, some, is_in, same}
+use Rattle.dirf.specs.Bytes.{Text, every, some, is_in, same}
 use Rattle.dirf.specs.Kinds.{names2025}
 use Rattle.dirf.specs.Edition.{kind_in}
 use Rattle.dirf.proofs.tests.Bools.{and_left, and_right, if_cases}
@@ -37,11 +38,11 @@ spells (b ∷ t) s i h = (
 )
 
 -- the first and the other parts of what is known beside a name
-here : (A R : Type 0) (b : Bool) → b ≡ true → (if b then A × R else R) → A
+here : (A R : Type 0) (b : Bool) → b ≡ true → cond b (A × R) R → A
 here A R true e p = p.0
 here A R false e p = absurd (true≢false (sym e))
 
-rest : (A R : Type 0) (b : Bool) → (if b then A × R else R) → R
+rest : (A R : Type 0) (b : Bool) → cond b (A × R) R → R
 rest A R true p = p.1
 rest A R false p = p
 

@@ -1,10 +1,11 @@
 -- The older edition's identifiers are those of 2025 without two.
+use Rattle.std.specs.Prelude.{if◌then◌else◌}
 use Prim.Native.Nat.{ℕ}
 use mathlib.Core.Path.{◌≡◌, refl, subst}
 use mathlib.Core.Bool.{true, false, not}
 use mathlib.Core.List.{List, [], ◌∷◌}
 use borrow.Author.Tests.{not-true}
-use Rattle.dirf.specs.Bytes.{if◌then◌else◌, Text, bytes, is_in, same, bytes_opens}
+use Rattle.dirf.specs.Bytes.{Text, bytes, is_in, same, bytes_opens}
 use Rattle.dirf.specs.Kinds.{RTDS, ESDS, names2025, names2022}
 use Rattle.dirf.specs.Edition.{kind_in}
 use Rattle.dirf.proofs.tests.Bools.{by_answer}

@@ -1,8 +1,8 @@
 -- What is known of a text when it is compared with an identifier: that no other is left. Each part of it is found by computing at the
 -- place in the code, so these definitions lie open.
-use Rattle.std.specs.Prelude.{ℕ, suc, ◌≡◌, Bool, true, false, ◌&&◌, not, List, [], ◌∷◌, eqb, length, get_or}
+use Rattle.std.specs.Prelude.{ℕ, suc, ◌≡◌, Bool, cond, true, false, ◌&&◌, not, List, [], ◌∷◌, eqb, length, get_or, if◌then◌else◌}
 use Prim.Native.String.{String}
-use Rattle.dirf.specs.Bytes.{if◌then◌else◌, Text, bytes}
+use Rattle.dirf.specs.Bytes.{Text, bytes}
 use Rattle.dirf.specs.Kinds.{names2025}
 
 -- a text of this length that begins with this letter
@@ -33,7 +33,7 @@ is_beside name other = eqb (length other) (length name) && eqb (get_or other 0 0
 abbrev pub NoOther : Text → List (ℕ × Text) → Text → Type 0
 NoOther name [] s = Unit {0}
 NoOther name (n ∷ ns) s =
-    if is_beside name n.1 then (Spells 0 n.1 s → ⊥) × NoOther name ns s else NoOther name ns s
+    cond (is_beside name n.1) ((Spells 0 n.1 s → ⊥) × NoOther name ns s) (NoOther name ns s)
 
 -- of all identifiers a text can only be this one, whose kind is k
 pub record Left (name : Text) (k : ℕ) (s : Text) : Type 0 where

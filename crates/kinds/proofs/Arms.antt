@@ -1,12 +1,13 @@
 -- An arm of a range in a `match` on a number: what it is told of the number, and one computed test over the numbers that may reach
 -- it, give its answer.
+use Rattle.std.specs.Prelude.{if◌then◌else◌}
 use Prim.Native.Nat.{ℕ, ◌-◌, ◌≤◌, ◌<◌}
 use mathlib.Core.Path.{◌≡◌, sym}
 use mathlib.Core.Bool.{false}
 use mathlib.Core.List.{List}
 use native.Mathlib.Omega.{arith}
 use lib.ListN.{replicate}
-use Rattle.dirf.specs.Bytes.{if◌then◌else◌, some, is_in}
+use Rattle.dirf.specs.Bytes.{some, is_in}
 use Rattle.dirf.proofs.tests.Says.{below_or}
 use Rattle.fields.proofs.Arms.{NoneOf, none_in}
 use Rattle.kinds.specs.Kinds.{tab}

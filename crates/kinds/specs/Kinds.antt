@@ -1,6 +1,5 @@
 -- How many kinds there are, and what a function gives for each.
-use Rattle.std.specs.Prelude.{ℕ, zero, suc, List, [], ◌∷◌}
-use Rattle.dirf.specs.Bytes.{if◌then◌else◌}
+use Rattle.std.specs.Prelude.{ℕ, zero, suc, List, [], ◌∷◌, if◌then◌else◌}
 use Rattle.dirf.specs.Kinds.{stands_once}
 
 -- f 0, f 1, .. , n of them

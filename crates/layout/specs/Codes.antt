@@ -1,6 +1,5 @@
 -- A row of five bytes, as the code has it.
-use Rattle.std.specs.Prelude.{ℕ, List, ◌&&◌, ltb}
-use Rattle.dirf.specs.Bytes.{if◌then◌else◌}
+use Rattle.std.specs.Prelude.{ℕ, List, ◌&&◌, ltb, if◌then◌else◌}
 use Rattle.dirf.specs.Row.{Row as FieldRow}
 use Rattle.kinds.specs.Kinds.{kinds}
 use Rattle.layout.specs.Tables.{byte_in, row_of}

@@ -1,6 +1,6 @@
 -- The tables as they are lent: what they hold, and what they say of whoever reads them.
-use Rattle.std.specs.Prelude.{ℕ, ◌+◌, ◌*◌, ◌-◌, min, Bool, true, false, ◌&&◌, not, List, [], ◌∷◌, ◌++◌, map, eqb, ltb, length, get_or, take, drop, replicate}
-use Rattle.dirf.specs.Bytes.{if◌then◌else◌, Text, bytes, is_in, lookup}
+use Rattle.std.specs.Prelude.{ℕ, ◌+◌, ◌*◌, ◌-◌, min, Bool, true, false, ◌&&◌, not, List, [], ◌∷◌, ◌++◌, map, eqb, ltb, length, get_or, take, drop, replicate, if◌then◌else◌}
+use Rattle.dirf.specs.Bytes.{Text, bytes, is_in, lookup}
 use Rattle.dirf.specs.Kinds.{is_later}
 use Rattle.dirf.specs.Row.{Row, row, Format, C, N, D, Fill, fixed, variable, Need, obligatory, optional}
 use Rattle.dirf.specs.Row.{Holds, identifier, amount, months, ddd, telephone, cpf, cnpj, cpfOrCnpj, plain, one_of, s_or_n}
@@ -43,7 +43,7 @@ record_bytes = 76
 
 -- the letters of a row: format C, N, D; fill F, V; the size; need S, N; what the field holds
 unfoldable pub format_of : ℕ → Format
-format_of b = if eqb b 78 then N else if eqb b 68 then D else C
+format_of b = if eqb b 78 then N else (if eqb b 68 then D else C)
 
 unfoldable pub fill_of : ℕ → Fill
 fill_of b = if eqb b 70 then fixed else variable

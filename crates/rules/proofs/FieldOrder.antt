@@ -1,4 +1,5 @@
 -- 13 to 18 and 26 of one field, in the order in which the code asks them.
+use Rattle.std.specs.Prelude.{if◌then◌else◌}
 use Prim.Native.Nat.{ℕ, ◌≤◌}
 use mathlib.Core.Path.{◌≡◌, refl}
 use mathlib.Core.Bool.{Bool, true, false, ◌&&◌, not, and-true, and-false}
@@ -8,7 +9,7 @@ use native.Mathlib.Nat.{le_trans}
 use lib.Dec.{ltb}
 use lib.ListN.{length}
 use borrow.Author.Tests.{not-false}
-use Rattle.dirf.specs.Bytes.{if◌then◌else◌, Text, every, is_digit, is_empty, begins_with}
+use Rattle.dirf.specs.Bytes.{Text, every, is_digit, is_empty, begins_with}
 use Rattle.dirf.specs.Row.{Row, N}
 use Rattle.dirf.specs.Numbers.{is_date}
 use Rattle.dirf.specs.Fields.{is_obligatory, right_byte, fills_to, size_held, takes_no_zero, dated, valid, digits_held, filled, field_order}
@@ -38,8 +39,8 @@ no_date r s = dated r.format && not (is_date s)
 -- the number by what the tests of a filled field answer
 unfoldable pub ruled : Bool → Bool → Bool → Bool → Bool → Bool → ℕ
 ruled bytes size zero date value digits =
-    if not bytes then 14 else if not size then 15 else if zero then 16 else if date then 17 else if not value then 18
-    else if not digits then 26 else 0
+    if not bytes then 14 else (if not size then 15 else (if zero then 16 else (if date then 17 else (if not value then 18
+    else (if not digits then 26 else 0)))))
 
 module _ (name : Text) (r : Row) where
   pub empty_number : (s : Text) → length s ≡ 0 → number_of (ask_field 0 field_order name r s) ≡ (if is_obligatory r.need then 13 else 0)

@@ -1,4 +1,5 @@
 -- What is found in a record's fields: what a finding is made of, field by field, and of a broken condition.
+use Rattle.std.specs.Prelude.{if◌then◌else◌}
 use Prim.Native.Nat.{ℕ, suc, ◌+◌, ◌≤◌, ◌<◌}
 use mathlib.Core.Path.{◌≡◌, refl, sym, ◌∙◌}
 use mathlib.Core.Logic.{◌≢◌}
@@ -10,7 +11,7 @@ use lib.Dec.{eqb, ltb}
 use lib.ListN.{length, get_or, drop, drop_of_length-le}
 use lib.Seq.{drop-cons}
 use borrow.Author.Tests.{ne_eqb, ltb-true}
-use Rattle.dirf.specs.Bytes.{if◌then◌else◌, Text, every, is_in}
+use Rattle.dirf.specs.Bytes.{Text, every, is_in}
 use Rattle.dirf.specs.Row.{Row}
 use Rattle.dirf.specs.Fields.{FieldRule, field_order}
 use Rattle.dirf.specs.Conditions.{Condition, condition_order}

@@ -1,4 +1,5 @@
 -- The value of digits: a digit at a time, how large it is, and that a day of any size may be capped.
+use Rattle.std.specs.Prelude.{if◌then◌else◌}
 use Prim.Native.Nat.{ℕ, suc, ◌+◌, ◌-◌, ◌*◌, ◌^◌, ◌≤◌, ◌<◌, min}
 use mathlib.Core.Path.{◌≡◌, refl, sym}
 use mathlib.Core.Bool.{Bool, true}
@@ -8,7 +9,7 @@ use native.Mathlib.Omega.{arith}
 use lib.Dec.{leb}
 use lib.ListN.{length, drop, drop_of_length-le, get_or-eq_default}
 use borrow.Author.Tests.{leb-true, le-leb, lt-leb}
-use Rattle.dirf.specs.Bytes.{if◌then◌else◌, Text, every, is_digit}
+use Rattle.dirf.specs.Bytes.{Text, every, is_digit}
 use Rattle.dirf.specs.Numbers.{value_after, value_of, is_leap, days_in, is_day}
 use Rattle.dirf.proofs.tests.Bools.{and_left, and_right, by_answer}
 use Rattle.dirf.proofs.tests.Lists.{every_at}

@@ -1,4 +1,5 @@
 -- The digits of a number, one by one from the last, and what a writer of numbers answers.
+use Rattle.std.specs.Prelude.{if◌then◌else◌}
 use Prim.Native.Nat.{ℕ, zero, suc, ◌+◌, ◌-◌, ◌/◌, ◌%◌, ◌^◌, ◌≤◌, ◌<◌}
 use mathlib.Core.Path.{◌≡◌, sym, ap, ◌∙◌}
 use mathlib.Core.List.{[], ◌∷◌, ◌++◌, append_assoc}
@@ -8,7 +9,7 @@ use lib.Dec.{eqb}
 use lib.ListN.{length, drop, set, length-append, length-set}
 use lib.Seq.{drop-cons, drop-set-lt, get_or-set_same}
 use borrow.Author.Tests.{lt-ltb, le-ltb, ne_eqb}
-use Rattle.dirf.specs.Bytes.{if◌then◌else◌, Text}
+use Rattle.dirf.specs.Bytes.{Text}
 use Rattle.dirf.specs.Limits.{largest}
 use Rattle.dirf.specs.Numbers.{decimal}
 use Rattle.dirf.specs.Rules.{rules_opens}

@@ -1,4 +1,5 @@
 -- What the code finds by lent tables is what the line writer's rules find, of any edition that the tables say.
+use Rattle.std.specs.Prelude.{if◌then◌else◌}
 use Prim.Native.Nat.{ℕ, ◌+◌, ◌≤◌}
 use mathlib.Core.Path.{◌≡◌, refl}
 use mathlib.Core.Bool.{Bool, true, false, not}
@@ -7,7 +8,7 @@ use native.Mathlib.Omega.{arith}
 use lib.Dec.{eqb, ltb}
 use lib.ListN.{length}
 use borrow.Author.Tests.{eqb-true}
-use Rattle.dirf.specs.Bytes.{if◌then◌else◌, Text}
+use Rattle.dirf.specs.Bytes.{Text}
 use Rattle.dirf.specs.Edition.{Edition, is_base, name_of, rows_of}
 use Rattle.dirf.specs.Rules.{Found, Rule, gives, given, or_else, asked_of, over, ask, first}
 use Rattle.dirf.specs.Order.{contents_of, wrong_number_of_fields, contents}
@@ -24,7 +25,7 @@ use Rattle.writer.proofs.Lengths.{cut_length, line_length}
 
 -- 22, 11 and 23 by what their tests say, and what comes after where none is given
 three : (base counted added : Bool) (x y : Found) → (counted ≡ true → added ≡ true → x ≡ y)
-    → let n : ℕ = if not base then 22 else if not counted then 11 else if not added then 23 else 0 in
+    → let n : ℕ = if not base then 22 else (if not counted then 11 else (if not added then 23 else 0)) in
     or_else (given n 0 (not (eqb n 0))) x
     ≡ or_else (given 22 0 (not base)) (or_else (given 11 0 (not counted)) (or_else (given 23 0 (not added)) y))
 unfolding given or_else

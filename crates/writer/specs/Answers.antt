@@ -1,6 +1,6 @@
 -- What the writers answer.
-use Rattle.std.specs.Prelude.{ℕ, ◌+◌, not, List, eqb, ltb, length}
-use Rattle.dirf.specs.Bytes.{if◌then◌else◌, Text}
+use Rattle.std.specs.Prelude.{ℕ, ◌+◌, not, List, eqb, ltb, length, if◌then◌else◌}
+use Rattle.dirf.specs.Bytes.{Text}
 use Rattle.dirf.specs.Rules.{Found, given, or_else}
 use Rattle.dirf.specs.Written.{Written}
 use Rattle.dirf.specs.LineWriter.{sum}
@@ -21,9 +21,9 @@ line_written w = record { number = w.number; field = w.field; count = length w.b
 unfoldable pub misfit_of : List ℕ → List ℕ → ℕ → Text → List ℕ → ℕ
 misfit_of names rows k text lengths =
     if not (base_in names k) then 22
-    else if not (eqb (length lengths) (count_in rows k)) then 11
-    else if not (eqb (sum lengths) (length text)) then 23
-    else 0
+    else (if not (eqb (length lengths) (count_in rows k)) then 11
+    else (if not (eqb (sum lengths) (length text)) then 23
+    else 0))
 
 -- 13 to 18 and 26 by field, then 19, of what stands along the lengths
 unfoldable pub contents_along : List ℕ → List ℕ → ℕ → Text → List ℕ → Found

@@ -1,4 +1,5 @@
 -- The line that comes next: what the code's tests read of it, byte by byte, and what is found there.
+use Rattle.std.specs.Prelude.{if◌then◌else◌}
 use Prim.Native.Nat.{ℕ, suc, ◌-◌, ◌≤◌, ◌<◌, zero, ◌+◌}
 use mathlib.Core.Path.{◌≡◌, refl, ap, ◌∙◌, sym, subst}
 use mathlib.Core.Bool.{false, Bool, true, ◌&&◌, not, and-false}
@@ -9,7 +10,7 @@ use lib.Dec.{eqb, leb, ltb}
 use lib.ListN.{length, get_or, drop, take}
 use lib.Seq.{drop-append_seam, take-append_seam, drop-append-add}
 use borrow.Author.Tests.{lt-leb, ne_eqb, eqb-true, ltb-false}
-use Rattle.dirf.specs.Bytes.{if◌then◌else◌, Text, ends_with, is_empty}
+use Rattle.dirf.specs.Bytes.{Text, ends_with, is_empty}
 use Rattle.dirf.specs.Limits.{line_limit, CR, LF}
 use Rattle.dirf.specs.Lines.{clean, unclean, Piece, push, pieces}
 use Rattle.dirf.specs.Rules.{Found, keeps, breaks, given, or_else}
@@ -42,8 +43,8 @@ last_at_lem b (c ∷ d ∷ s) h =
 -- what ends a line, test by test
 pub ended : (u : Text)
     → end_of u
-    ≡ (if leb (length u) 0 then 5 else if eqb (get_or u 0 0) 10 then 6
-    else if leb (length u) 1 then 5 else if eqb (get_or u 1 0) 10 then 0 else 6)
+    ≡ (if leb (length u) 0 then 5 else (if eqb (get_or u 0 0) 10 then 6
+    else (if leb (length u) 1 then 5 else (if eqb (get_or u 1 0) 10 then 0 else 6))))
 unfolding end_of
 ended [] = refl
 ended (b ∷ []) = refl

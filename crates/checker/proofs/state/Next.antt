@@ -1,4 +1,5 @@
 -- The state after a record that was taken sums up the records with that one.
+use Rattle.std.specs.Prelude.{if◌then◌else◌}
 use Prim.Native.Nat.{ℕ, suc, ◌≤◌, ◌<◌}
 use mathlib.Core.Path.{◌≡◌, refl, sym, ◌∙◌}
 use mathlib.Core.Bool.{true, false}
@@ -10,7 +11,7 @@ use lib.Dec.{eqb, eqb-suc-suc}
 use lib.ListN.{length, get_or, set, length-set}
 use lib.Seq.{get_or-set_same, get_or-set_other}
 use borrow.Author.Tests.{eqb-true, eqb-false}
-use Rattle.dirf.specs.Bytes.{if◌then◌else◌, Text}
+use Rattle.dirf.specs.Bytes.{Text}
 use Rattle.dirf.specs.Kinds.{opens_nothing}
 use Rattle.dirf.specs.Edition.{Edition}
 use Rattle.dirf.specs.Tree.{Rec, Open, opened, opening, declarant, place, parent_of}

@@ -1,4 +1,5 @@
 -- What the state sums up of the records read so far, and that it tells where a record may stand.
+use Rattle.std.specs.Prelude.{if◌then◌else◌}
 use Prim.Native.Nat.{ℕ, suc, ◌≤◌, ◌<◌}
 use mathlib.Core.Path.{◌≡◌, refl, sym, ap, ap₂, ◌∙◌, subst}
 use mathlib.Core.Bool.{true, ◌&&◌, ◌||◌}
@@ -8,7 +9,7 @@ use native.Mathlib.Omega.{arith}
 use lib.Dec.{eqb, ltb}
 use lib.ListN.{length, get_or, get_or-replicate}
 use borrow.Author.Tests.{lt-ltb, le-ltb}
-use Rattle.dirf.specs.Bytes.{if◌then◌else◌, Text, is_in}
+use Rattle.dirf.specs.Bytes.{Text, is_in}
 use Rattle.dirf.specs.Kinds.{FIMDirf}
 use Rattle.dirf.specs.Edition.{Edition}
 use Rattle.dirf.specs.Tree.{Rec, Open, opened, opening, declarant, may_hold, kind_of_first, number_of_first, Place, place_in, place, parent_of}

@@ -1,4 +1,5 @@
 -- A turn over the state gives what document 01's rules give over the records, up to 21, 20 and 7: part by part, in their order.
+use Rattle.std.specs.Prelude.{if◌then◌else◌}
 use Prim.Native.Nat.{ℕ, zero, suc, ◌≤◌, ◌<◌}
 use mathlib.Core.Path.{◌≡◌, refl, sym, ap, ap₂, ◌∙◌, subst}
 use mathlib.Core.Bool.{Bool, true, false, not, ◌&&◌}
@@ -7,7 +8,7 @@ use native.Mathlib.Omega.{arith}
 use lib.Dec.{eqb, ltb, leb, leb-suc-suc}
 use lib.ListN.{length, get_or, drop, length-drop}
 use borrow.Author.Tests.{lt-leb, ltb-false, eqb-true, ne_eqb, not-false}
-use Rattle.dirf.specs.Bytes.{if◌then◌else◌, Text, ends_with}
+use Rattle.dirf.specs.Bytes.{Text, ends_with}
 use Rattle.dirf.specs.Limits.{bar, lines_limit}
 use Rattle.dirf.specs.Kinds.{is_later, stands_once}
 use Rattle.dirf.specs.Edition.{Edition, kind_of, name_of, rows_of}

@@ -1,4 +1,5 @@
 -- A line cut at its bars, and fields joined by bars.
+use Rattle.std.specs.Prelude.{if◌then◌else◌}
 use Prim.Native.Nat.{ℕ}
 use mathlib.Core.Path.{◌≡◌, refl, sym, ap, ◌∙◌}
 use mathlib.Core.Bool.{Bool, true, false, true≢false}
@@ -9,7 +10,7 @@ use native.Mathlib.Omega.{arith}
 use lib.Dec.{eqb}
 use lib.ListN.{length, length-append}
 use borrow.Author.Tests.{eqb-true, ne_eqb}
-use Rattle.dirf.specs.Bytes.{if◌then◌else◌, Text, ends_with}
+use Rattle.dirf.specs.Bytes.{Text, ends_with}
 use Rattle.dirf.specs.Limits.{bar}
 use Rattle.dirf.specs.Lines.{more, fields}
 use Rattle.dirf.specs.FieldReader.{width_of}

@@ -1,4 +1,5 @@
 -- 26: digits that pass the test are their first ones with both check digits behind them.
+use Rattle.std.specs.Prelude.{if◌then◌else◌}
 use Prim.Native.Nat.{ℕ, zero, suc, ◌+◌, ◌-◌, ◌%◌, ◌<◌, min}
 use mathlib.Core.Path.{◌≡◌, refl, sym, ap, ◌∙◌}
 use mathlib.Core.Bool.{◌&&◌, and_assoc}
@@ -8,7 +9,7 @@ use lib.Dec.{eqb, ltb}
 use lib.ListN.{length, get_or, take, length-append, length-take}
 use lib.Seq.{length-take-le, take_all, take-suc, take_at, get_or-append_seam}
 use borrow.Author.Tests.{eqb-true, eq-eqb}
-use Rattle.dirf.specs.Bytes.{if◌then◌else◌, Text}
+use Rattle.dirf.specs.Bytes.{Text}
 use Rattle.dirf.specs.Row.{Holds, identifier, amount, months, ddd, telephone, cpf, cnpj, cpfOrCnpj, plain, one_of}
 use Rattle.dirf.specs.Digits.{weighted, check_digit, digit_right, digits_right, right_CPF, right_CNPJ}
 use Rattle.dirf.specs.Fields.{digits_held}

@@ -1,4 +1,5 @@
 -- 21 and 20: what the look-backs say of the records before.
+use Rattle.std.specs.Prelude.{if◌then◌else◌}
 use Prim.Native.Nat.{ℕ}
 use mathlib.Core.Path.{◌≡◌, refl, sym, ap, ◌∙◌, subst}
 use mathlib.Core.Bool.{Bool, true, false, ◌&&◌, not, true≢false}
@@ -8,7 +9,7 @@ use mathlib.Core.List.{List, [], ◌∷◌, ◌++◌}
 use mathlib.Core.Option.{Option, none, some, some-injective}
 use lib.Dec.{eqb}
 use lib.ListN.{length}
-use Rattle.dirf.specs.Bytes.{if◌then◌else◌, Text, same, less}
+use Rattle.dirf.specs.Bytes.{Text, same, less}
 use Rattle.dirf.specs.Lines.{fields}
 use Rattle.dirf.specs.Tree.{Rec}
 use Rattle.dirf.specs.Keys.{key_fields, has_key, key_of, key_less, last_under, is_some, not_after}

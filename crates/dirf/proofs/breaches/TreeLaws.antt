@@ -1,4 +1,5 @@
 -- 12: what the test says of the tree.
+use Rattle.std.specs.Prelude.{if◌then◌else◌}
 use Prim.Native.Nat.{ℕ, zero, suc}
 use mathlib.Core.Path.{◌≡◌, refl, sym, subst}
 use mathlib.Core.Bool.{Bool, ◌&&◌, ◌||◌}
@@ -9,7 +10,7 @@ use native.Mathlib.Omega.{arith}
 use lib.Dec.{eqb, ltb}
 use lib.ListN.{length, get_or}
 use borrow.Author.Tests.{lt-ltb, le-ltb}
-use Rattle.dirf.specs.Bytes.{if◌then◌else◌, is_in, lookup}
+use Rattle.dirf.specs.Bytes.{is_in, lookup}
 use Rattle.dirf.specs.Kinds.{Dirf, RESPO, DECPF, DECPJ, IDREC, BPFDEC, INFPA, ESPA, FIMDirf, pensions}
 use Rattle.dirf.specs.Edition.{Edition}
 use Rattle.dirf.specs.Tree.{Rec, Open, opening, block_of, suits, may_hold, kind_of_first, place_in, place, may_follow, in_order, is_placed}

@@ -1,4 +1,5 @@
 -- The demands of the answer to a file, out of those of an edition: which edition it is hangs on line 1 alone.
+use Rattle.std.specs.Prelude.{if◌then◌else◌}
 use Prim.Native.Nat.{ℕ, zero, suc, ◌≤◌, ◌<◌}
 use mathlib.Core.Path.{◌≡◌, refl, sym, ap, ◌∙◌, subst}
 use mathlib.Core.Bool.{false≢true}
@@ -7,7 +8,7 @@ use native.Mathlib.Omega.{arith}
 use lib.Dec.{eqb}
 use lib.ListN.{length, get_or}
 use borrow.Author.Tests.{eqb-true, eqb-false}
-use Rattle.dirf.specs.Bytes.{if◌then◌else◌, Text, bytes, every, same, bytes_opens}
+use Rattle.dirf.specs.Bytes.{Text, bytes, every, same, bytes_opens}
 use Rattle.dirf.specs.Kinds.{Dirf, kinds_opens}
 use Rattle.dirf.specs.Row.{Row, row, C, fixed, obligatory, one_of}
 use Rattle.dirf.specs.Layout.{mark2022}

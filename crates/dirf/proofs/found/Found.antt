@@ -1,4 +1,5 @@
 -- What the search finds is what reading every line finds.
+use Rattle.std.specs.Prelude.{if◌then◌else◌}
 use Prim.Native.Nat.{ℕ, zero, suc, ◌+◌, ◌*◌, ◌≤◌, ◌<◌}
 use mathlib.Core.Path.{◌≡◌, refl, sym, ap, ◌∙◌, subst}
 use mathlib.Core.Bool.{true, false, ◌&&◌, not, true≢false}
@@ -8,7 +9,7 @@ use native.Mathlib.Numerals.{add-one}
 use lib.Dec.{eqb, ltb}
 use lib.ListN.{length, take, drop, length-take, length-drop}
 use borrow.Author.Tests.{eqb-true, eqb-false, eq-eqb, le-leb, lt-ltb, le-ltb, not-true}
-use Rattle.dirf.specs.Bytes.{if◌then◌else◌, Text, is_in, same, less}
+use Rattle.dirf.specs.Bytes.{Text, is_in, same, less}
 use Rattle.dirf.specs.Limits.{numbers_an_entry}
 use Rattle.dirf.specs.Kinds.{IDREC, beneficiaries, companies, is_beneficiary}
 use Rattle.dirf.specs.Check.{Entry, last_at, numbers_of}

@@ -1,4 +1,5 @@
 -- The keys of records of one kind under one parent grow from line to line, where every line keeps rule 20.
+use Rattle.std.specs.Prelude.{if◌then◌else◌}
 use Prim.Native.Nat.{ℕ, suc, ◌+◌, ◌≤◌, ◌<◌}
 use mathlib.Core.Path.{◌≡◌, refl, sym, ap, ◌∙◌}
 use mathlib.Core.Bool.{true, false, ◌&&◌, true≢false}
@@ -8,7 +9,7 @@ use native.Mathlib.Omega.{arith}
 use lib.Dec.{eqb}
 use lib.ListN.{length}
 use borrow.Author.Tests.{eqb-true, eqb-false, eq-eqb, ne_eqb, not-false}
-use Rattle.dirf.specs.Bytes.{if◌then◌else◌, Text}
+use Rattle.dirf.specs.Bytes.{Text}
 use Rattle.dirf.specs.Edition.{Edition}
 use Rattle.dirf.specs.Lines.{Piece, fields}
 use Rattle.dirf.specs.Tree.{Rec}

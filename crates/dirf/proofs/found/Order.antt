@@ -1,4 +1,5 @@
 -- In what order beneficiaries stand below an IDREC: persons of one kind, then companies.
+use Rattle.std.specs.Prelude.{if◌then◌else◌}
 use Prim.Native.Nat.{ℕ, ◌≤◌, ◌<◌}
 use mathlib.Core.Path.{◌≡◌, refl, sym, ap, ◌∙◌, subst}
 use mathlib.Core.Bool.{Bool, true, ◌||◌, not}
@@ -8,7 +9,7 @@ use native.Mathlib.Omega.{arith}
 use lib.Dec.{eqb, ltb}
 use lib.ListN.{length}
 use borrow.Author.Tests.{eqb-true, eq-eqb, ltb-true}
-use Rattle.dirf.specs.Bytes.{if◌then◌else◌, every, is_in, bytes_opens}
+use Rattle.dirf.specs.Bytes.{every, is_in, bytes_opens}
 use Rattle.dirf.specs.Kinds.{IDREC, declarants, beneficiaries, companies, kinds_opens}
 use Rattle.dirf.specs.Edition.{Edition, edition_opens}
 use Rattle.dirf.specs.Tree.{Rec, block_of, number_of_first, kind_of_first}

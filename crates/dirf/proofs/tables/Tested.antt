@@ -1,4 +1,5 @@
 -- An edition is sound by computed tests over its tables, and by four lines that close a file.
+use Rattle.std.specs.Prelude.{if◌then◌else◌}
 use Prim.Native.Nat.{ℕ, zero, suc}
 use mathlib.Core.Path.{◌≡◌, refl, sym, ◌∙◌}
 use mathlib.Core.Bool.{Bool, true, false, ◌&&◌, ◌||◌, not, true≢false}
@@ -7,7 +8,7 @@ use mathlib.Core.List.{List, [], ◌∷◌, map}
 use lib.Dec.{eqb, leb}
 use lib.ListN.{length, get_or}
 use borrow.Author.Tests.{leb-true}
-use Rattle.dirf.specs.Bytes.{if◌then◌else◌, every, is_in, lookup}
+use Rattle.dirf.specs.Bytes.{every, is_in, lookup}
 use Rattle.dirf.specs.Limits.{line_limit}
 use Rattle.dirf.specs.Kinds.{DECPF, is_beneficiary, is_value}
 use Rattle.dirf.specs.Row.{obligatory, identifier}

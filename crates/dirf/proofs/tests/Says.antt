@@ -1,4 +1,5 @@
 -- What computed tests say in plain mathematics.
+use Rattle.std.specs.Prelude.{if◌then◌else◌}
 use Prim.Native.Nat.{ℕ, ◌≤◌, ◌<◌}
 use mathlib.Core.Path.{◌≡◌, refl, sym, ap, ◌∙◌, subst}
 use mathlib.Core.Bool.{Bool, true, false, ◌&&◌, ◌||◌, not, true≢false}
@@ -10,7 +11,7 @@ use native.Mathlib.Omega.{arith}
 use lib.Dec.{eqb, ltb, leb}
 use lib.ListN.{length}
 use borrow.Author.Tests.{eqb-true, eq-eqb, leb-true, le-leb, ltb-true, ltb-false, lt-ltb}
-use Rattle.dirf.specs.Bytes.{if◌then◌else◌, Text, every, some, is_in, same, less, is_digit, is_empty, begins_with, ends_with}
+use Rattle.dirf.specs.Bytes.{Text, every, some, is_in, same, less, is_digit, is_empty, begins_with, ends_with}
 use Rattle.dirf.proofs.tests.Bools.{by_answer}
 use Rattle.dirf.specs.Theorems.Plain.{◌∈◌, Smaller, beginning, at_byte}
 

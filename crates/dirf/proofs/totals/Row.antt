@@ -1,4 +1,5 @@
 -- The amounts of a value record stand one after another, from its first amount on.
+use Rattle.std.specs.Prelude.{if◌then◌else◌}
 use Prim.Native.Nat.{ℕ, zero, suc, ◌+◌, ◌-◌, ◌*◌, ◌≤◌, ◌<◌}
 use mathlib.Core.Path.{◌≡◌, refl, sym, ap, ◌∙◌}
 use mathlib.Core.Bool.{Bool, true, false, not, true≢false}
@@ -7,7 +8,7 @@ use native.Mathlib.Omega.{arith}
 use native.Mathlib.Nat.{zero-add}
 use lib.ListN.{length, get_or, take, drop}
 use borrow.Author.Tests.{le-leb, lt-leb, lt-ltb, le-ltb, leb-true}
-use Rattle.dirf.specs.Bytes.{if◌then◌else◌, Text, every, is_in}
+use Rattle.dirf.specs.Bytes.{Text, every, is_in}
 use Rattle.dirf.specs.Limits.{amount_size, largest}
 use Rattle.dirf.specs.Kinds.{reimbursements}
 use Rattle.dirf.specs.Row.{Row}

@@ -1,4 +1,5 @@
 -- What the tables of parents and of groups say of every kind, each by one computed test over them.
+use Rattle.std.specs.Prelude.{if◌then◌else◌}
 use Prim.Native.Nat.{ℕ, ◌≤◌, ◌<◌}
 use mathlib.Core.Path.{◌≡◌, refl, sym, ap, ◌∙◌, subst}
 use mathlib.Core.Bool.{Bool, true, ◌&&◌, ◌||◌, not, or-true, true≢false}
@@ -7,7 +8,7 @@ use mathlib.Core.List.{List, ◌∷◌}
 use native.Mathlib.Omega.{arith}
 use lib.Dec.{eqb, ltb, leb}
 use borrow.Author.Tests.{eqb-true, ltb-true, leb-true, not-true}
-use Rattle.dirf.specs.Bytes.{if◌then◌else◌, every, is_in, bytes_opens}
+use Rattle.dirf.specs.Bytes.{every, is_in, bytes_opens}
 use Rattle.dirf.specs.Kinds.{IDREC, PSE, declarants, blocks, beneficiaries, pensions, values, opens_nothing, kinds_opens}
 use Rattle.dirf.specs.Edition.{edition_opens}
 use Rattle.dirf.specs.Theorems.Plain.{◌∈◌}

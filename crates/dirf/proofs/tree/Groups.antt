@@ -1,4 +1,5 @@
 -- The last line of a group: what it says of parents, that the lines up to it are the group's, and what one more line changes.
+use Rattle.std.specs.Prelude.{if◌then◌else◌}
 use Prim.Native.Nat.{ℕ, zero, suc, ◌+◌, ◌-◌, ◌≤◌, ◌<◌}
 use mathlib.Core.Path.{◌≡◌, refl, sym, ap, ◌∙◌, subst}
 use mathlib.Core.Bool.{true, not, true≢false}
@@ -9,7 +10,7 @@ use lib.Dec.{eqb, leb}
 use lib.ListN.{length, get_or, drop, length-drop, drop_of_length-le}
 use lib.Seq.{get_or-drop}
 use borrow.Author.Tests.{eqb-true, eqb-false, leb-true, leb-false, not-true}
-use Rattle.dirf.specs.Bytes.{if◌then◌else◌, is_in, bytes_opens}
+use Rattle.dirf.specs.Bytes.{is_in, bytes_opens}
 use Rattle.dirf.specs.Kinds.{Dirf, RESPO, FIMDirf, alone, kinds_opens}
 use Rattle.dirf.specs.Edition.{edition_opens}
 use Rattle.dirf.specs.Tree.{Rec, Open, number_of_first}

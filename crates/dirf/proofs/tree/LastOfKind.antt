@@ -1,5 +1,6 @@
 -- To know the record before it of the same kind under the same parent, it is enough to remember the last record of each kind: where a
 -- record may stand, the last of its kind is the one that is looked for, or there is none.
+use Rattle.std.specs.Prelude.{if◌then◌else◌}
 use Prim.Native.Nat.{ℕ, suc, ◌-◌, ◌≤◌, ◌<◌}
 use mathlib.Core.Path.{◌≡◌, refl, sym, ◌∙◌, subst}
 use mathlib.Core.Bool.{Bool, true, false, ◌&&◌, true≢false}
@@ -9,7 +10,6 @@ use native.Mathlib.Omega.{arith}
 use lib.Dec.{eqb}
 use lib.ListN.{length}
 use borrow.Author.Tests.{eqb-true, eqb-false, eq-eqb, ne_eqb}
-use Rattle.dirf.specs.Bytes.{if◌then◌else◌}
 use Rattle.dirf.specs.Kinds.{declarants}
 use Rattle.dirf.specs.Edition.{Edition}
 use Rattle.dirf.specs.Tree.{Rec, Open, declarant, kind_of_first, number_of_first, place, parent_of, in_order, may_stand}

@@ -1,7 +1,7 @@
 -- What belongs to what, by kinds alone: what a record belongs to, what stands in its group, and how deep. These are the words in which
 -- `Whose` speaks; `Sound` asks of an edition that its lists keep to them.
-use Rattle.std.specs.Prelude.{ℕ, ◌||◌, List, [], ◌∷◌, ◌++◌, eqb}
-use Rattle.dirf.specs.Bytes.{if◌then◌else◌, is_in}
+use Rattle.std.specs.Prelude.{ℕ, ◌||◌, List, [], ◌∷◌, ◌++◌, eqb, if◌then◌else◌}
+use Rattle.dirf.specs.Bytes.{is_in}
 use Rattle.dirf.specs.Kinds.{IDREC, BPFDEC, INFPC, RTPP, RTFA, RTSP, RTEP, ESPP, ESFA, ESSP, ESEP, INFPA, RTPA, ESPA}
 use Rattle.dirf.specs.Kinds.{BPFPROC, BPFRRA, SCP, PSE, OPSE, TPSE, RTPSE, DTPSE, RDTPSE, declarants, blocks, with_IDREC, below_SCP}
 use Rattle.dirf.specs.Kinds.{beneficiaries, pensions, values, is_block, is_beneficiary, opens_nothing}
@@ -71,11 +71,11 @@ deepest = 5
 unfoldable pub level : ℕ → ℕ
 level k =
     if opens_nothing k then deepest
-    else if is_in k (INFPC ∷ INFPA ∷ DTPSE ∷ []) then 4
-    else if is_beneficiary k || eqb k TPSE then 3
-    else if is_in k (IDREC ∷ OPSE ∷ []) then 2
-    else if is_block k then 1
-    else 0
+    else (if is_in k (INFPC ∷ INFPA ∷ DTPSE ∷ []) then 4
+    else (if is_beneficiary k || eqb k TPSE then 3
+    else (if is_in k (IDREC ∷ OPSE ∷ []) then 2
+    else (if is_block k then 1
+    else 0))))
 
 -- to compute with this file: `unfolding belongs_opens`
 unfoldable pub belongs_opens : Unit {0}

@@ -1,7 +1,7 @@
 -- What the search finds. 02, A6: "For an accepted file with its own table the answer equals that of reading every line." It speaks of the
 -- lines of the file and of whose they are, and of every line; not of how the search goes.
-use Rattle.std.specs.Prelude.{ℕ, zero, suc, ◌+◌, ◌*◌, ◌≡◌, Bool, ◌&&◌, not, ◌≢◌, List, eqb, ltb, length, take}
-use Rattle.dirf.specs.Bytes.{if◌then◌else◌, Text, is_in, less}
+use Rattle.std.specs.Prelude.{ℕ, zero, suc, ◌+◌, ◌*◌, ◌≡◌, Bool, ◌&&◌, not, ◌≢◌, List, eqb, ltb, length, take, if◌then◌else◌}
+use Rattle.dirf.specs.Bytes.{Text, is_in, less}
 use Rattle.dirf.specs.Limits.{numbers_an_entry}
 use Rattle.dirf.specs.Kinds.{IDREC, beneficiaries, companies, is_beneficiary}
 use Rattle.dirf.specs.Edition.{Edition}

@@ -2,8 +2,8 @@
 -- than it has line ends. Then either it can still become an accepted file, and at most four further lines do it, or it is refused and
 -- nothing written after it changes the number, the line, the field or the table. The first happens exactly when the answer is
 -- acceptance or 'file not closed'."
-use Rattle.std.specs.Prelude.{ℕ, suc, ◌+◌, ◌≤◌, ◌≡◌, ◌&&◌, [], ◌∷◌, ◌++◌, eqb}
-use Rattle.dirf.specs.Bytes.{if◌then◌else◌, Text}
+use Rattle.std.specs.Prelude.{ℕ, suc, ◌+◌, ◌≤◌, ◌≡◌, ◌&&◌, [], ◌∷◌, ◌++◌, eqb, if◌then◌else◌}
+use Rattle.dirf.specs.Bytes.{Text}
 use Rattle.dirf.specs.Edition.{Edition}
 use Rattle.dirf.specs.Check.{verdict}
 use Rattle.dirf.specs.Theorems.Answered.{Accepted}

@@ -1,10 +1,10 @@
 -- The tests are the rules', in their order.
+use Rattle.std.specs.Prelude.{if◌then◌else◌}
 use mathlib.Core.Path.{◌≡◌}
 use mathlib.Core.Bool.{not}
 use borrow.Author.Tests.{eq-eqb, ne_eqb}
 use lib.Dec.{eqb}
 use lib.ListN.{length}
-use Rattle.dirf.specs.Bytes.{if◌then◌else◌}
 use Rattle.dirf.specs.LineWriter.{sum}
 use Rattle.writer.specs.Answers.{misfit_of}
 use Rattle.writer.proofs.misfit.Goals as goal
