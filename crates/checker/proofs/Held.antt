@@ -17,7 +17,7 @@ use Rattle.dirf.specs.Edition.{Edition}
 use Rattle.dirf.specs.Rules.{first}
 use Rattle.dirf.specs.Tree.{Rec, Open}
 use Rattle.dirf.specs.Order.{kind_of_line}
-use Rattle.dirf.specs.Check.{entry_of as entryAfter, table_of}
+use Rattle.dirf.specs.Check.{entry_of as entry_after, table_of}
 use Rattle.dirf.specs.Check.{last_at, verdict, entry_numbers, numbers_from}
 use Rattle.dirf.specs.Totals.{added, total, lines_read, total_by}
 use Rattle.dirf.specs.Theorems.Sound.{Sound}
@@ -182,7 +182,7 @@ module _ {e : Edition} {below : List (List ℕ)} {file : Text} {room : ℕ} {fir
   unfolding table_of numbers_in
   held_next r g f =
       let es = table_of h.before in
-      let x = entryAfter g.rec h.before in
+      let x = entry_after g.rec h.before in
       let n : st.count ≡ length es = h.reading.sums.count ∙ sym (table_length h.before) in
       let own : length es + 1 ≡ suc (length h.before) = omega (arith, table_length h.before) in
       record {

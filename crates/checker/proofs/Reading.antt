@@ -19,7 +19,7 @@ use Rattle.dirf.specs.Rules.{Found, keeps, breaks, given, or_else, ask, first}
 use Rattle.dirf.specs.Tree.{Rec, Open, opening, declarant, number_of_first, place, parent_of}
 use Rattle.dirf.specs.Order.{here, kind_of_line, order, line_opens}
 use Rattle.dirf.specs.Order as parts
-use Rattle.dirf.specs.Check.{entry_of as entryAfter, bytes_of, table_of, Verdict, refused, accepted, no_bytes_left, rec_of, breach, after_line}
+use Rattle.dirf.specs.Check.{entry_of as entry_after, bytes_of, table_of, Verdict, refused, accepted, no_bytes_left, rec_of, breach, after_line}
 use Rattle.dirf.specs.Check.{run, verdict}
 use Rattle.dirf.specs.Theorems.Belongs.{level}
 use Rattle.dirf.specs.Theorems.Sound.{Sound}
@@ -32,7 +32,7 @@ use Rattle.dirf.proofs.totals.Line.{Kept}
 use Rattle.fields.specs.Places.{part_of}
 use Rattle.layout.specs.LaidOut.{SayBelow}
 use Rattle.rules.proofs.Laws.{or_keeps}
-use Rattle.checker.specs.Lines.{after_line as behindLine, third_kind}
+use Rattle.checker.specs.Lines.{after_line as behind_line, third_kind}
 use Rattle.checker.specs.State.{line_bytes, start_state, start_past, last_in, above, Near, past_after, state_after}
 use Rattle.checker.specs.Turn.{refused_at, halt_at, halt, Fits, looked_found, entry_of, turn_of}
 use Rattle.checker.specs.Answers.{answer_of, entry_of_code, SayAll}
@@ -50,7 +50,7 @@ use Rattle.checker.proofs.turn.Outcome.{small, turned}
 -- what stands behind n lines
 unfoldable pub behind : ℕ → Text → Text
 behind zero s = s
-behind (suc n) s = behindLine (behind n s)
+behind (suc n) s = behind_line (behind n s)
 
 -- the lines of records, the first one first
 abbrev pub lines_of : List Rec → List Text
@@ -124,7 +124,7 @@ module _ {e : Edition} {below : List (List ℕ)} {file : Text} {room : ℕ} {st 
   -- one record more
   pub record Goes (r : Record) : Type 0 where
     pub rec : Rec
-    pub entry : entry_of_code (entry_of st r) ≡ entryAfter rec before
+    pub entry : entry_of_code (entry_of st r) ≡ entry_after rec before
     -- the open records above it are those that the code has found
     pub up : List Open
     pub known : OpenRecords before (suc (length before)) (level rec.kind) up
@@ -211,7 +211,7 @@ module _ {e : Edition} {below : List (List ℕ)} {file : Text} {room : ℕ} {st 
             (sym (looked_is h.sums (small h.sums all) o.stands o.few) ∙ q)
 
         more : breach e room before p ≡ keeps → Goes (read_as h.sums)
-        unfolding after_line rec_of bytes_of entryAfter entry_of behind state_after behindLine parent_of
+        unfolding after_line rec_of bytes_of entry_after entry_of behind state_after behind_line parent_of
         more b =
             let line : Text = ln h.sums in
             let r : Rec = rec h.sums in
@@ -236,7 +236,7 @@ module _ {e : Edition} {below : List (List ℕ)} {file : Text} {room : ℕ} {st 
                     ∙ ap (λ (q : Piece). run e room (rec_of e before q ∷ before) t.rest) (sym o.whole.is_piece) ∙ on b;
                 few = omega (arith, h.sums.count, o.fewer);
                 close = omega (arith, h.close, o.whole.short);
-                came = moved ∙ sym (drop-drop 2 (length line) (drop st.at file)) ∙ ap behindLine h.came
+                came = moved ∙ sym (drop-drop 2 (length line) (drop st.at file)) ∙ ap behind_line h.came
                     ∙ ap (λ n. behind n file) (sym (add-one st.count));
                 lines = h.lines ∙ ap (λ ps. lines_of before ++ map (λ q. q.body) ps) t.first_piece
                     ∙ ap (λ (q : Piece). lines_of before ++ (q.body ∷ map (λ q. q.body) t.rest)) o.whole.is_piece

@@ -13,10 +13,10 @@ Children = List (ℕ × List ℕ)
 
 -- list 2.1, the same in both editions but for what stands below a BPFDEC
 abbrev pub list_of_DECPF : List ℕ → Children
-list_of_DECPF belowBPFDEC =
+list_of_DECPF below_BPFDEC =
     (DECPF, IDREC ∷ RRA ∷ SCP ∷ PSE ∷ []) ∷
     (IDREC, BPFDEC ∷ BPJDEC ∷ BPFRRA ∷ []) ∷
-    (BPFDEC, belowBPFDEC) ∷
+    (BPFDEC, below_BPFDEC) ∷
     (INFPC, RTPP ∷ RTFA ∷ ESPP ∷ ESFA ∷ []) ∷
     (INFPA, RTPA ∷ ESPA ∷ []) ∷
     (BPJDEC, RTRT ∷ RTIRF ∷ []) ∷
@@ -33,10 +33,10 @@ list_of_DECPF belowBPFDEC =
 
 -- list 2.2, the same in both editions but for what stands below a BPFDEC and a BPFPROC
 abbrev pub list_of_DECPJ : List ℕ → List ℕ → Children
-list_of_DECPJ belowBPFDEC belowBPFPROC =
+list_of_DECPJ below_BPFDEC below_BPFPROC =
     (DECPJ, IDREC ∷ FCI ∷ PROC ∷ RRA ∷ SCP ∷ PSE ∷ []) ∷
     (IDREC, BPFDEC ∷ BPJDEC ∷ BPFFCI ∷ BPJFCI ∷ BPFPROC ∷ BPJPROC ∷ BPFRRA ∷ []) ∷
-    (BPFDEC, belowBPFDEC) ∷
+    (BPFDEC, below_BPFDEC) ∷
     (INFPC, RTPP ∷ RTFA ∷ RTSP ∷ RTEP ∷ ESPP ∷ ESFA ∷ ESSP ∷ ESEP ∷ []) ∷
     (INFPA, RTPA ∷ ESPA ∷ []) ∷
     (BPJDEC, RTRT ∷ RTIRF ∷ []) ∷
@@ -44,7 +44,7 @@ list_of_DECPJ belowBPFDEC belowBPFPROC =
     (BPFFCI, RTRT ∷ RTIRF ∷ CJAC ∷ CJAA ∷ ESRT ∷ ESIR ∷ ESDJ ∷ RIP65 ∷ RIMOG ∷ RICAP ∷ RIO ∷ []) ∷
     (BPJFCI, RTRT ∷ RTIRF ∷ []) ∷
     (PROC, IDREC ∷ []) ∷
-    (BPFPROC, belowBPFPROC) ∷
+    (BPFPROC, below_BPFPROC) ∷
     (BPJPROC, RTRT ∷ RTIRF ∷ RIRSR ∷ []) ∷
     (RRA, IDREC ∷ []) ∷
     (BPFRRA, RTRT ∷ RTPO ∷ INFPA ∷ RTIRF ∷ RIMOG ∷ RIP65 ∷ RIJMRE ∷ DAJUD ∷ QTMESES ∷ []) ∷

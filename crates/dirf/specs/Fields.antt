@@ -3,7 +3,7 @@ use Rattle.std.specs.Prelude.{ℕ, Bool, true, false, ◌&&◌, ◌||◌, not, L
 use Rattle.dirf.specs.Bytes.{Text, every, some, is_in, same, is_digit, is_empty, begins_with}
 use Rattle.dirf.specs.Limits.{bar, CR, LF}
 use Rattle.dirf.specs.Row.{Row, Format, C, N, D, Fill, fixed, variable, Need, obligatory, optional, Holds, identifier}
-use Rattle.dirf.specs.Row.{amount, months, ddd, telephone, cpf, cnpj, cpfOrCnpj, plain, one_of}
+use Rattle.dirf.specs.Row.{amount, months, ddd, telephone, cpf, cnpj, cpf_or_cnpj, plain, one_of}
 use Rattle.dirf.specs.Numbers.{is_date}
 use Rattle.dirf.specs.Digits.{right_CPF, right_CNPJ}
 
@@ -31,7 +31,7 @@ size_held ddd n = true
 size_held telephone n = is_in n (8 ∷ 9 ∷ [])
 size_held cpf n = true
 size_held cnpj n = true
-size_held cpfOrCnpj n = is_in n (11 ∷ 14 ∷ [])
+size_held cpf_or_cnpj n = is_in n (11 ∷ 14 ∷ [])
 size_held plain n = true
 size_held (one_of vs) n = true
 
@@ -44,7 +44,7 @@ takes_no_zero ddd = true
 takes_no_zero telephone = false
 takes_no_zero cpf = false
 takes_no_zero cnpj = false
-takes_no_zero cpfOrCnpj = false
+takes_no_zero cpf_or_cnpj = false
 takes_no_zero plain = false
 takes_no_zero (one_of vs) = false
 
@@ -62,7 +62,7 @@ valid name ddd s = true
 valid name telephone s = true
 valid name cpf s = true
 valid name cnpj s = true
-valid name cpfOrCnpj s = true
+valid name cpf_or_cnpj s = true
 valid name plain s = true
 valid name (one_of vs) s = some (same s) vs
 
@@ -75,7 +75,7 @@ digits_held ddd s = true
 digits_held telephone s = true
 digits_held cpf s = right_CPF s
 digits_held cnpj s = right_CNPJ s
-digits_held cpfOrCnpj s = right_CPF s || right_CNPJ s
+digits_held cpf_or_cnpj s = right_CPF s || right_CNPJ s
 digits_held plain s = true
 digits_held (one_of vs) s = true
 

@@ -4,7 +4,7 @@
 use Rattle.std.specs.Prelude.{ℕ, List, [], ◌∷◌, replicate}
 use Rattle.dirf.specs.Bytes.{Text, bytes}
 use Rattle.dirf.specs.Row.{Row, Holds, row, C, N, D, fixed, variable, obligatory, optional, identifier, amount, months, ddd}
-use Rattle.dirf.specs.Row.{telephone, cpf, cnpj, cpfOrCnpj, plain, one_of, s_or_n}
+use Rattle.dirf.specs.Row.{telephone, cpf, cnpj, cpf_or_cnpj, plain, one_of, s_or_n}
 use Rattle.dirf.specs.Kinds.{Dirf, RESPO, DECPF, DECPJ, IDREC, BPFDEC, RTRT, RTPO, RTDP, RTDS, RTIRF, CJAC, CJAA, ESRT}
 use Rattle.dirf.specs.Kinds.{ESPO, ESDP, ESDS, ESIR, ESDJ, INFPC, RTPP, RTFA, RTSP, RTEP, ESPP, ESFA, ESSP, ESEP, INFPA, RTPA}
 use Rattle.dirf.specs.Kinds.{ESPA, RIDAC, RIIRP, RIAP, RIMOG, RIP65, RIBMR, RICAP, RIRPC, RIL96, RIPTS, RIJMRE, RIO, BPJDEC}
@@ -147,7 +147,7 @@ proc_rows =
     row N fixed 1 obligatory (one_of (bytes "1" ∷ bytes "2" ∷ bytes "3" ∷ [])) ∷  -- 2 Indicador de Justiça
     row C variable 20 obligatory plain ∷  -- 3 Número do processo
     row N fixed 1 optional (one_of (bytes "1" ∷ bytes "2" ∷ [])) ∷  -- 4 Indicador de tipo de advogado/escritório de advocacia
-    row N variable 14 optional cpfOrCnpj ∷  -- 5 CPF do advogado/CNPJ do escritório de advocacia
+    row N variable 14 optional cpf_or_cnpj ∷  -- 5 CPF do advogado/CNPJ do escritório de advocacia
     row C variable 150 optional plain ∷  -- 6 Nome do advogado/Nome empresarial do escritório de advocacia
     row N variable 13 optional amount ∷  -- 7 Valor pago para o advogado
     []
@@ -176,7 +176,7 @@ rra_rows =
     row N fixed 1 obligatory (one_of (bytes "1" ∷ bytes "2" ∷ [])) ∷  -- 2 Identificador de rendimento recebido acumuladamente
     row C variable 20 optional plain ∷  -- 3 Número do processo/requerimento
     row N fixed 1 optional (one_of (bytes "1" ∷ bytes "2" ∷ [])) ∷  -- 4 Indicador de tipo de advogado/escritório de advocacia
-    row N variable 14 optional cpfOrCnpj ∷  -- 5 CPF do advogado/CNPJ do escritório de advocacia
+    row N variable 14 optional cpf_or_cnpj ∷  -- 5 CPF do advogado/CNPJ do escritório de advocacia
     row C variable 150 optional plain ∷  -- 6 Nome do advogado/Nome empresarial do escritório de advocacia
     row N variable 13 optional amount ∷  -- 7 Valor pago para o advogado
     []
@@ -295,7 +295,7 @@ tpse_rows =
 abbrev pub reimbursement_rows : ℕ → List Row
 reimbursement_rows size =
     row C fixed size obligatory identifier ∷  -- 1 Identificador de registro
-    row N variable 14 obligatory cpfOrCnpj ∷  -- 2 CPF/CNPJ do prestador de serviço
+    row N variable 14 obligatory cpf_or_cnpj ∷  -- 2 CPF/CNPJ do prestador de serviço
     row C variable 150 obligatory plain ∷  -- 3 Nome/Nome empresarial do prestador de serviço
     row N variable 9 optional amount ∷  -- 4 Valor do reembolso do ano-calendário
     row N variable 9 optional amount ∷  -- 5 Valor do reembolso de anos anteriores
@@ -333,8 +333,8 @@ monthly2025 =
 
 -- which records have which rows: Dirf and the records of monthly values are an edition's own
 abbrev pub layout_of : List Row → List ℕ → List (List ℕ × List Row)
-layout_of dirfRows monthly =
-    (Dirf ∷ [], dirfRows) ∷
+layout_of dirf_rows monthly =
+    (Dirf ∷ [], dirf_rows) ∷
     (RESPO ∷ [], respo_rows) ∷
     (DECPF ∷ [], decpf_rows) ∷
     (DECPJ ∷ [], decpj_rows) ∷

@@ -17,7 +17,7 @@ pub data Need : Type 0 where
 -- what the field holds: "Valores válidos" and "Observações". The record's own identifier; centavos; tenths of a month; an area code;
 -- a telephone or fax number; a CPF; a CNPJ; a CPF or a CNPJ; one of the printed values; or plainly what the format says
 pub data Holds : Type 0 where
-  identifier amount months ddd telephone cpf cnpj cpfOrCnpj plain : Holds
+  identifier amount months ddd telephone cpf cnpj cpf_or_cnpj plain : Holds
   one_of : List Text → Holds
 
 pub record Row : Type 0 where

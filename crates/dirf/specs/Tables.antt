@@ -5,7 +5,7 @@ use Rattle.dirf.specs.Limits.{line_limit}
 use Rattle.dirf.specs.Kinds.{IDREC, RIL96, RIPTS, RIJMRE, RIRSR, RIO, alone, blocks, beneficiaries, pensions, values, plan}
 use Rattle.dirf.specs.Kinds.{reimbursements, later, is_value}
 use Rattle.dirf.specs.Row.{Row, Format, C, N, D, Fill, fixed, variable, Holds, identifier, amount, months, ddd, telephone}
-use Rattle.dirf.specs.Row.{cpf, cnpj, cpfOrCnpj, plain, one_of}
+use Rattle.dirf.specs.Row.{cpf, cnpj, cpf_or_cnpj, plain, one_of}
 use Rattle.dirf.specs.Layout.{monthly2025}
 use Rattle.dirf.specs.Edition.{Edition, rows_of, kind_of, is_base}
 use Rattle.dirf.specs.Totals.{is_amount}
@@ -43,7 +43,7 @@ goes_with ddd r = digits_fixed 2 r
 goes_with telephone r = digits_up_to 9 r
 goes_with cpf r = digits_fixed 11 r
 goes_with cnpj r = digits_fixed 14 r
-goes_with cpfOrCnpj r = digits_up_to 14 r
+goes_with cpf_or_cnpj r = digits_up_to 14 r
 goes_with plain r = not (digits_up_to 13 r || digits_fixed 2 r || digits_up_to 9 r || digits_fixed 11 r || digits_fixed 14 r || digits_up_to 14 r)
 goes_with (one_of vs) r = every (λ v. eqb (length v) r.size) vs
 

@@ -2,7 +2,7 @@
 use Rattle.std.specs.Prelude.{ℕ, ◌+◌, Bool, true, false, ◌&&◌, List, [], ◌∷◌, map, eqb, length, take, if◌then◌else◌}
 use Rattle.dirf.specs.Bytes.{Text}
 use Rattle.dirf.specs.Kinds.{is_value}
-use Rattle.dirf.specs.Row.{Row, Holds, identifier, amount, months, ddd, telephone, cpf, cnpj, cpfOrCnpj, plain, one_of}
+use Rattle.dirf.specs.Row.{Row, Holds, identifier, amount, months, ddd, telephone, cpf, cnpj, cpf_or_cnpj, plain, one_of}
 use Rattle.dirf.specs.Edition.{Edition, rows_of}
 use Rattle.dirf.specs.Editions.{edition_of}
 use Rattle.dirf.specs.Lines.{pieces, fields}
@@ -19,7 +19,7 @@ is_amount ddd = false
 is_amount telephone = false
 is_amount cpf = false
 is_amount cnpj = false
-is_amount cpfOrCnpj = false
+is_amount cpf_or_cnpj = false
 is_amount plain = false
 is_amount (one_of vs) = false
 

@@ -2,7 +2,7 @@
 #![tactic(auto)]
 
 ghost use Rattle.std.specs.Prelude.{◌≡◌, [], ◌∷◌, ◌+◌, ◌≤◌, ◌<◌, min, length, drop, set, if◌then◌else◌};
-ghost use Rattle.dirf.specs.Bytes.{is_in, same as sameText, less as lessText};
+ghost use Rattle.dirf.specs.Bytes.{is_in, same as same_text, less as less_text};
 ghost use Rattle.dirf.specs.Kinds.{reimbursements};
 ghost use Rattle.dirf.specs.Lines.{is_line_end, fields as fields_of};
 ghost use Rattle.dirf.specs.FieldReader.{field_there, field_of, field_start};
@@ -53,7 +53,7 @@ pub fn part(s: &[u8], start: usize, len: usize) -> &[u8]
 
 // Byte for byte, case kept.
 pub fn same(a: &[u8], b: &[u8]) -> bool
-    ensures { result ≡ sameText a.now b.now }
+    ensures { result ≡ same_text a.now b.now }
 {
     // most pairs differ in length already
     if a.len() != b.len() {
@@ -71,7 +71,7 @@ pub fn same(a: &[u8], b: &[u8]) -> bool
 
 // Byte by byte, a proper beginning first.
 pub fn less(a: &[u8], b: &[u8]) -> bool
-    ensures { result ≡ lessText a.now b.now }
+    ensures { result ≡ less_text a.now b.now }
 {
     let mut i = 0;
     while i < a.len() {
@@ -115,7 +115,7 @@ fn number_less(a: &[u8], b: &[u8]) -> bool
 // Whether a key of field 2 alone comes before another: that of RTPSE and RDTPSE is a CPF or a CNPJ.
 fn one_less(k: u32, a: &[u8], b: &[u8]) -> bool
     ensures { result ≡ (if is_in k reimbursements then key_less (fewer_digits_first a.now) (fewer_digits_first b.now)
-        else lessText a.now b.now) }
+        else less_text a.now b.now) }
 {
     match k {
         66 | 68 => number_less(a, b),

@@ -3,7 +3,7 @@
 
 ghost use Rattle.std.specs.Prelude.{◌≡◌};
 ghost use Rattle.dirf.specs.Kinds.{is_later, opens_nothing, stands_once};
-ghost use Rattle.dirf.specs.Tree.{block_of, suits as suitsOf};
+ghost use Rattle.dirf.specs.Tree.{block_of, suits as suits_of};
 ghost use Rattle.dirf.specs.Tables.{first_amount, amount_count};
 ghost use Rattle.kinds.specs.Kinds.{month_count};
 
@@ -12,7 +12,7 @@ pub const KINDS: usize = 74;
 
 // Where the table cannot say it: below an IDREC the block is asked, and an ESPA stands below the INFPA of a BPFDEC.
 pub fn suits(declarant: u32, holder: u32, outer: u32, kind: u32) -> bool
-    ensures { result ≡ suitsOf declarant holder outer kind }
+    ensures { result ≡ suits_of declarant holder outer kind }
 {
     match holder {
         5 => block_of(declarant, kind) == outer,

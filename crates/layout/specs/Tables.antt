@@ -3,7 +3,7 @@ use Rattle.std.specs.Prelude.{ℕ, ◌+◌, ◌*◌, ◌-◌, min, Bool, true, f
 use Rattle.dirf.specs.Bytes.{Text, bytes, is_in, lookup}
 use Rattle.dirf.specs.Kinds.{is_later}
 use Rattle.dirf.specs.Row.{Row, row, Format, C, N, D, Fill, fixed, variable, Need, obligatory, optional}
-use Rattle.dirf.specs.Row.{Holds, identifier, amount, months, ddd, telephone, cpf, cnpj, cpfOrCnpj, plain, one_of, s_or_n}
+use Rattle.dirf.specs.Row.{Holds, identifier, amount, months, ddd, telephone, cpf, cnpj, cpf_or_cnpj, plain, one_of, s_or_n}
 use Rattle.dirf.specs.Layout.{mark2022, relation}
 use Rattle.dirf.specs.Edition.{Edition, kind_in, name_of, rows_of}
 use Rattle.dirf.specs.Tree.{suits}
@@ -61,7 +61,7 @@ holds_of b =
     (116, telephone) ∷
     (99, cpf) ∷
     (106, cnpj) ∷
-    (101, cpfOrCnpj) ∷
+    (101, cpf_or_cnpj) ∷
     (115, s_or_n) ∷
     (121, one_of (bytes "2025" ∷ [])) ∷
     (122, one_of (bytes "2024" ∷ [])) ∷
@@ -145,7 +145,7 @@ holds_byte ddd = 100
 holds_byte telephone = 116
 holds_byte cpf = 99
 holds_byte cnpj = 106
-holds_byte cpfOrCnpj = 101
+holds_byte cpf_or_cnpj = 101
 holds_byte plain = 46
 holds_byte (one_of vs) =
     kind_in

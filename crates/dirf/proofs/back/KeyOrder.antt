@@ -24,18 +24,18 @@ pub record Ordered {A : Type 0} (lt eq : A → A → Bool) : Type 0 where
   pub same : (a b : A) → eq a b ≡ true → a ≡ b
 
 -- a test of lists that goes by their first difference, a proper beginning first
-record Lexical {A : Type 0} (lt eq : A → A → Bool) (ltOf : List A → List A → Bool) : Type 0 where
-  none : ltOf [] [] ≡ false
-  before : (b : A) (bs : List A) → ltOf [] (b ∷ bs) ≡ true
-  behind : (a : A) (as' : List A) → ltOf (a ∷ as') [] ≡ false
-  both : (a b : A) (as' bs : List A) → ltOf (a ∷ as') (b ∷ bs) ≡ (lt a b || eq a b && ltOf as' bs)
+record Lexical {A : Type 0} (lt eq : A → A → Bool) (lt_of : List A → List A → Bool) : Type 0 where
+  none : lt_of [] [] ≡ false
+  before : (b : A) (bs : List A) → lt_of [] (b ∷ bs) ≡ true
+  behind : (a : A) (as' : List A) → lt_of (a ∷ as') [] ≡ false
+  both : (a b : A) (as' bs : List A) → lt_of (a ∷ as') (b ∷ bs) ≡ (lt a b || eq a b && lt_of as' bs)
 
-module _ {A : Type 0} (lt eq : A → A → Bool) (ltOf : List A → List A → Bool) (o : Ordered lt eq) (l : Lexical lt eq ltOf) where
-  lexical_irreflexive : (a : List A) → ltOf a a ≡ false
+module _ {A : Type 0} (lt eq : A → A → Bool) (lt_of : List A → List A → Bool) (o : Ordered lt eq) (l : Lexical lt eq lt_of) where
+  lexical_irreflexive : (a : List A) → lt_of a a ≡ false
   lexical_irreflexive [] = l.none
   lexical_irreflexive (a ∷ as') = rw (l.both a a as' as', o.irreflexive a, lexical_irreflexive as') (and-false (eq a a))
 
-  lexical_transitive : (a b c : List A) → ltOf a b ≡ true → ltOf b c ≡ true → ltOf a c ≡ true
+  lexical_transitive : (a b c : List A) → lt_of a b ≡ true → lt_of b c ≡ true → lt_of a c ≡ true
   lexical_transitive [] [] c h k = k
   lexical_transitive [] (b ∷ bs) [] h k = absurd (false≢true (rw l.behind at k))
   lexical_transitive [] (b ∷ bs) (c ∷ cs) h k = l.before c cs

@@ -10,7 +10,7 @@ use lib.ListN.{length, get_or, take, length-append, length-take}
 use lib.Seq.{length-take-le, take_all, take-suc, take_at, get_or-append_seam}
 use borrow.Author.Tests.{eqb-true, eq-eqb}
 use Rattle.dirf.specs.Bytes.{Text}
-use Rattle.dirf.specs.Row.{Holds, identifier, amount, months, ddd, telephone, cpf, cnpj, cpfOrCnpj, plain, one_of}
+use Rattle.dirf.specs.Row.{Holds, identifier, amount, months, ddd, telephone, cpf, cnpj, cpf_or_cnpj, plain, one_of}
 use Rattle.dirf.specs.Digits.{weighted, check_digit, digit_right, digits_right, right_CPF, right_CNPJ}
 use Rattle.dirf.specs.Fields.{digits_held}
 use Rattle.dirf.specs.Theorems.Plain.{digit_given, with_digit, RightDigits, DigitsHeld}
@@ -100,6 +100,6 @@ digits_held_say ddd s = always
 digits_held_say telephone s = always
 digits_held_say cpf s = digits_say _ _ s
 digits_held_say cnpj s = digits_say _ _ s
-digits_held_say cpfOrCnpj s = says_or (right_CPF s) (right_CNPJ s) (digits_say _ _ s) (digits_say _ _ s)
+digits_held_say cpf_or_cnpj s = says_or (right_CPF s) (right_CNPJ s) (digits_say _ _ s) (digits_say _ _ s)
 digits_held_say plain s = always
 digits_held_say (one_of vs) s = always

@@ -11,7 +11,7 @@ use lib.ListN.{length, take, drop}
 use borrow.Author.Tests.{not-true}
 use Rattle.dirf.specs.Bytes.{Text, every, some, is_in, same, bytes_opens}
 use Rattle.dirf.specs.Row.{Row, Format, C, N, D, Fill, fixed, variable, Need, obligatory, optional, Holds, identifier, amount, months}
-use Rattle.dirf.specs.Row.{ddd, telephone, cpf, cnpj, cpfOrCnpj, plain, one_of}
+use Rattle.dirf.specs.Row.{ddd, telephone, cpf, cnpj, cpf_or_cnpj, plain, one_of}
 use Rattle.dirf.specs.Numbers.{value_of, is_leap, days_in, is_day, is_date}
 use Rattle.dirf.specs.Fields.{is_obligatory, right_byte, fills_to, size_held, takes_no_zero, dated, valid, filled}
 use Rattle.dirf.specs.Fields.{obligatory_field_empty, byte_of_the_wrong_kind, wrong_size, zero_in_front, no_such_date, not_a_valid_value}
@@ -65,7 +65,7 @@ holds_say ddd = record { sized = λ n. always; no_zero = (λ e. a_ddd, λ h. ref
 holds_say telephone = record { sized = λ n. two_says n 8 9; no_zero = never (λ z. elim z [ ]); valued = λ name s. always }
 holds_say cpf = record { sized = λ n. always; no_zero = never (λ z. elim z [ ]); valued = λ name s. always }
 holds_say cnpj = record { sized = λ n. always; no_zero = never (λ z. elim z [ ]); valued = λ name s. always }
-holds_say cpfOrCnpj = record { sized = λ n. two_says n 11 14; no_zero = never (λ z. elim z [ ]); valued = λ name s. always }
+holds_say cpf_or_cnpj = record { sized = λ n. two_says n 11 14; no_zero = never (λ z. elim z [ ]); valued = λ name s. always }
 holds_say plain = record { sized = λ n. always; no_zero = never (λ z. elim z [ ]); valued = λ name s. always }
 holds_say (one_of vs) =
     record {

@@ -8,7 +8,7 @@ use lib.Dec.{eqb}
 use borrow.Author.Tests.{eqb-true, not-false}
 use Rattle.dirf.specs.Bytes.{Text, every, is_digit, begins_with}
 use Rattle.dirf.specs.Limits.{amount_size, largest}
-use Rattle.dirf.specs.Row.{Row, Format, C, N, D, Holds, identifier, amount, months, ddd, telephone, cpf, cnpj, cpfOrCnpj, plain}
+use Rattle.dirf.specs.Row.{Row, Format, C, N, D, Holds, identifier, amount, months, ddd, telephone, cpf, cnpj, cpf_or_cnpj, plain}
 use Rattle.dirf.specs.Row.{one_of}
 use Rattle.dirf.specs.Numbers.{value_of}
 use Rattle.dirf.specs.Fields.{right_byte, takes_no_zero, byte_of_the_wrong_kind, wrong_size, zero_in_front, field_order}
@@ -35,7 +35,7 @@ holds_amount ddd q = absurd (true≢false (sym q))
 holds_amount telephone q = absurd (true≢false (sym q))
 holds_amount cpf q = absurd (true≢false (sym q))
 holds_amount cnpj q = absurd (true≢false (sym q))
-holds_amount cpfOrCnpj q = absurd (true≢false (sym q))
+holds_amount cpf_or_cnpj q = absurd (true≢false (sym q))
 holds_amount plain q = absurd (true≢false (sym q))
 holds_amount (one_of vs) q = absurd (true≢false (sym q))
 

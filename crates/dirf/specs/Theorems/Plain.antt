@@ -3,7 +3,7 @@ use Rattle.std.specs.Prelude.{ℕ, suc, ◌+◌, ◌%◌, ◌≤◌, ◌<◌, �
 use mathlib.Core.List.{List, [], ◌∷◌, ◌++◌, Memᴰ}
 use Rattle.dirf.specs.Bytes.{Text}
 use Rattle.dirf.specs.Row.{Format, C, N, D, Fill, fixed, variable}
-use Rattle.dirf.specs.Row.{Holds, identifier, amount, months, ddd, telephone, cpf, cnpj, cpfOrCnpj, plain, one_of}
+use Rattle.dirf.specs.Row.{Holds, identifier, amount, months, ddd, telephone, cpf, cnpj, cpf_or_cnpj, plain, one_of}
 use Rattle.dirf.specs.Lines.{Piece}
 use Rattle.dirf.specs.Numbers.{value_of}
 use Rattle.dirf.specs.Digits.{weighted}
@@ -45,7 +45,7 @@ SizeHeld ddd n = Unit {0}
 SizeHeld telephone n = (n ≡ 8) ⊎ (n ≡ 9)
 SizeHeld cpf n = Unit {0}
 SizeHeld cnpj n = Unit {0}
-SizeHeld cpfOrCnpj n = (n ≡ 11) ⊎ (n ≡ 14)
+SizeHeld cpf_or_cnpj n = (n ≡ 11) ⊎ (n ≡ 14)
 SizeHeld plain n = Unit {0}
 SizeHeld (one_of vs) n = Unit {0}
 
@@ -64,7 +64,7 @@ Valid name ddd s = Unit {0}
 Valid name telephone s = Unit {0}
 Valid name cpf s = Unit {0}
 Valid name cnpj s = Unit {0}
-Valid name cpfOrCnpj s = Unit {0}
+Valid name cpf_or_cnpj s = Unit {0}
 Valid name plain s = Unit {0}
 Valid name (one_of vs) s = s ∈ vs
 
@@ -97,7 +97,7 @@ DigitsHeld ddd s = Unit {0}
 DigitsHeld telephone s = Unit {0}
 DigitsHeld cpf s = RightCPF s
 DigitsHeld cnpj s = RightCNPJ s
-DigitsHeld cpfOrCnpj s = RightCPF s ⊎ RightCNPJ s
+DigitsHeld cpf_or_cnpj s = RightCPF s ⊎ RightCNPJ s
 DigitsHeld plain s = Unit {0}
 DigitsHeld (one_of vs) s = Unit {0}
 

@@ -6,7 +6,7 @@ use borrow.Author.Rules.{rules}
 use native.Mathlib.Omega.{arith}
 use borrow.Author.Tests.{le-ltb}
 use Rattle.dirf.specs.Bytes.{bytes_opens}
-use Rattle.dirf.specs.Row.{telephone, cpfOrCnpj}
+use Rattle.dirf.specs.Row.{telephone, cpf_or_cnpj}
 use Rattle.dirf.specs.Fields.{size_held}
 use Rattle.layout.specs.Tables.{holds_of}
 use Rattle.dirf.proofs.tests.Lists.{outside}
@@ -30,7 +30,7 @@ returns-in_default-n-3 c =
 
 pub returns-in-11 : goal.returns-in-11
 unfolding bytes_opens size_held holds_of seen
-returns-in-11 c = rw c.in-101.is (keys (size_held cpfOrCnpj) true 11 (14 ∷ []) refl c.in-11.is)
+returns-in-11 c = rw c.in-101.is (keys (size_held cpf_or_cnpj) true 11 (14 ∷ []) refl c.in-11.is)
 
 pub returns-in_default-n-2 : goal.returns-in_default-n-2
 unfolding bytes_opens size_held holds_of seen
