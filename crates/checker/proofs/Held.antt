@@ -20,6 +20,7 @@ use Rattle.dirf.specs.Order.{kind_of_line}
 use Rattle.dirf.specs.Check.{entry_of as entry_after, table_of}
 use Rattle.dirf.specs.Check.{last_at, verdict, entry_numbers, numbers_from}
 use Rattle.dirf.specs.Totals.{added, total, lines_read, total_by}
+use Rattle.dirf.specs.Tables.{AmountsRight}
 use Rattle.dirf.specs.Theorems.Sound.{Sound}
 use Rattle.dirf.specs.Theorems.Totals.{largest_line}
 use Rattle.dirf.proofs.tests.Says.{below_or}
@@ -61,24 +62,31 @@ pub record Held (e : Edition) (below : List (List ℕ)) (file : Text) (room : �
   pub reading : Reading e below file room st past before
   pub table : t ≡ entries_in first before
   pub totals : ts ≡ totals_in (totals_of e before) lent
+  pub right : AmountsRight e
 
 pub held_start : {e : Edition} {below : List (List ℕ)} {file : Text} {room : ℕ} {first ts : List ℕ} {st : State} {past : Past}
-    (lent : List ℕ) → Sound e → ts ≡ totals_in (λ k. 0) lent → st ≡ start_state → past ≡ start_past
+    (lent : List ℕ) → Sound e → AmountsRight e → ts ≡ totals_in (λ k. 0) lent → st ≡ start_state → past ≡ start_past
     → Held e below file room first first ts ts st past
 unfolding table_of with_numbers numbers_in numbers_from total
-held_start {first} lent sound z q p =
+held_start {first} lent sound right z q p =
     rw (z, q, p) (record {
       before = [];
       reading = reading_start sound;
       table = rw (take-nil (length first / numbers_an_entry));
       totals = sym (totals_over (λ k. 0) (λ k. 0) lent);
+      right = right;
     })
+
+-- what the loop comes to: the answer with the table, and the totals
+pub record Told (e : Edition) (file : Text) (room : ℕ) (before after first last : List ℕ) (a : Answer) : Type 0 where
+  pub judged : Judged e file room before after a
+  pub totals : last ≡ totals_in (total_by e file room) first
 
 -- the totals that were lent, before they were cleared
 pub as_lent : {e : Edition} {file : Text} {room : ℕ} {before after lent first last : List ℕ} {a : Answer} → first ≡ totals_in (λ k. 0) lent
-    → Judged e file room before after first last a → Judged e file room before after lent last a
+    → Told e file room before after first last a → Told e file room before after lent last a
 as_lent {lent} z j =
-    record { answer = j.answer; entries = j.entries; totals = j.totals ∙ ap (totals_in _) z ∙ totals_over _ (λ k. 0) lent }
+    record { judged = j.judged; totals = j.totals ∙ ap (totals_in _) z ∙ totals_over _ (λ k. 0) lent }
 
 module _ {e : Edition} {below : List (List ℕ)} {file : Text} {room : ℕ} {first t lent ts : List ℕ} {st : State} {past : Past}
     (h : Held e below file room first t lent ts st past) where
@@ -97,12 +105,12 @@ module _ {e : Edition} {below : List (List ℕ)} {file : Text} {room : ℕ} {fir
       ∙ take-append_seam (lines_of h.before) _
 
   -- where the turn stops, or what it has read is refused, the answer is the verdict, and the table and the totals are left as they are
-  pub answered : (a : Answer) → Stops (verdict e file room) h.before a → Judged e file room first t lent ts a
+  pub answered : (a : Answer) → Stops (verdict e file room) h.before a → Told e file room first t lent ts a
   unfolding table_within total_by
   answered a w =
       record {
-        answer = w.answer;
-        entries = h.table ∙ ap (λ es. with_numbers (numbers_in es first) first) (sym w.table);
+        judged =
+            record { answer = w.answer; entries = h.table ∙ ap (λ es. with_numbers (numbers_in es first) first) (sym w.table) };
         totals = h.totals ∙ totals_same _ _ lent (λ k. ap (total e k) (lines_read_lem a w));
       }
 
@@ -130,7 +138,7 @@ module _ {e : Edition} {below : List (List ℕ)} {file : Text} {room : ℕ} {fir
     line = g.rec.line
 
     it_adds : Adds e k line
-    it_adds = subst (λ k. Adds e k line) g.kind (adds e h.reading.sums.sound line g.kept)
+    it_adds = subst (λ k. Adds e k line) g.kind (adds e h.reading.sums.sound h.right line g.kept)
 
     line_adds : line_sum k line ≡ added e k line
     unfolding line_sum sum_of
@@ -141,14 +149,14 @@ module _ {e : Edition} {below : List (List ℕ)} {file : Text} {room : ℕ} {fir
     other_adds j d = rw (ne_eqb (kind_of_line e line) j (λ q. d (sym q ∙ g.kind)), and-false (is_value j))
 
     largest : line_sum k line ≤ largest_line
-    largest = omega (arith, line_adds, added_bound e h.reading.sums.sound k line)
+    largest = omega (arith, line_adds, added_bound e h.reading.sums.sound h.right k line)
 
     -- it fits, as the total of so many lines does
     line_fits : Addable ts k line
     unfolding line_sum
     line_fits =
         let so_far = totals_least (totals_of e h.before) lent k f.kind in
-        let bound = total_bound e h.reading.sums.sound k (lines_of h.before) in
+        let bound = total_bound e h.reading.sums.sound h.right k (lines_of h.before) in
         record {
           summable = record { many = it_adds.many; digits = it_adds.digits; fits = omega (arith, largest) };
           fits = omega (
@@ -189,6 +197,7 @@ module _ {e : Edition} {below : List (List ℕ)} {file : Text} {room : ℕ} {fir
         before = g.rec ∷ h.before;
         reading = g.reading;
         totals = held_totals r g f;
+        right = h.right;
         table =
             ap₂ (λ a (c : ℕ). put_lasts (put_entry a c (entry_numbers (entry_of_code (entry_of st r)) (c + 1)))
             st.path.lines r.outer (c + 1))

@@ -160,16 +160,6 @@ module _ (t : List ℕ) where
       either j false true = refl
       either j false false = refl
 
--- a check leaves the table and the totals as long as they were
-module _ {e : Edition} {file : Text} {room : ℕ} {before after first last : List ℕ} {r : Answer}
-    (j : Judged e file room before after first last r) where
-  pub judged_length : length after ≡ length before
-  unfolding table_within numbers_in
-  judged_length = ap length j.entries ∙ held_length before _ _
-
-  pub judged_totals : length last ≡ length first
-  judged_totals = ap length j.totals ∙ totals_length _ first
-
 -- where all of them fit, those are all
 pub all_within : (v : Verdict) (t : List ℕ) → length v.table ≤ length t / numbers_an_entry → table_within v t ≡ table_after v t
 unfolding table_within table_after numbers_in numbers_of

@@ -60,8 +60,7 @@ pub record SayAll (e : Edition) (rows : List ℕ) (below : List (List ℕ)) (fil
   pub say : SayRows e rows
   pub say_below : SayBelow e (third_kind e file) below
 
--- the answer, and what is left in the table and in the totals
-pub record Judged (e : Edition) (file : Text) (room : ℕ) (before after first last : List ℕ) (r : Answer) : Type 0 where
+-- the answer, and what is left in the table
+pub record Judged (e : Edition) (file : Text) (room : ℕ) (before after : List ℕ) (r : Answer) : Type 0 where
   pub answer : r ≡ answer_of (verdict e file room)
   pub entries : after ≡ table_within (verdict e file room) before
-  pub totals : last ≡ totals_in (total_by e file room) first

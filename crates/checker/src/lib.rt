@@ -13,7 +13,7 @@ ghost use Rattle.dirf.specs.Kinds.{DECPF};
 ghost use Rattle.dirf.specs.Theorems.Belongs.{deepest};
 ghost use Rattle.dirf.specs.Editions.{edition_of};
 ghost use Rattle.dirf.specs.Check.{entry_numbers, answer_to};
-ghost use Rattle.dirf.specs.Totals.{total_of};
+ghost use Rattle.dirf.specs.Totals.{total_by, total_of};
 ghost use Rattle.editions.specs.Editions.{edition_said};
 ghost use Rattle.checker.specs.Lines.{third_kind};
 ghost use Rattle.checker.specs.Totals.{totals_in};
@@ -113,8 +113,8 @@ fn walk(
     totals: &mut [u64],
 ) -> Answer
     requires { SayAll (edition_said e) rows.now below.now file.now }
-    ensures { Judged (edition_said e) file.now room table.old table.new
-        totals.old totals.new result }
+    ensures judged { Judged (edition_said e) file.now room table.old table.new result }
+    ensures totals { totals.new ≡ totals_in (total_by (edition_said e) file.now room) totals.old }
 {
     totals::clear(totals);
     let mut st = state::start();
@@ -157,8 +157,8 @@ fn walk(
 // stack.
 fn walk_pf(e: Edition, file: &[u8], room: usize, table: &mut [u32], totals: &mut [u64]) -> Answer
     requires { third_kind (edition_said e) file.now ≡ DECPF }
-    ensures { Judged (edition_said e) file.now room table.old table.new
-        totals.old totals.new result }
+    ensures judged { Judged (edition_said e) file.now room table.old table.new result }
+    ensures totals { totals.new ≡ totals_in (total_by (edition_said e) file.now room) totals.old }
 {
     let rows = layout::row_table(e);
     let below = layout::pf_table(e);
@@ -167,8 +167,8 @@ fn walk_pf(e: Edition, file: &[u8], room: usize, table: &mut [u32], totals: &mut
 
 fn walk_pj(e: Edition, file: &[u8], room: usize, table: &mut [u32], totals: &mut [u64]) -> Answer
     requires { third_kind (edition_said e) file.now ≡ DECPF → ⊥ }
-    ensures { Judged (edition_said e) file.now room table.old table.new
-        totals.old totals.new result }
+    ensures judged { Judged (edition_said e) file.now room table.old table.new result }
+    ensures totals { totals.new ≡ totals_in (total_by (edition_said e) file.now room) totals.old }
 {
     let rows = layout::row_table(e);
     let below = layout::pj_table(e);
@@ -177,8 +177,8 @@ fn walk_pj(e: Edition, file: &[u8], room: usize, table: &mut [u32], totals: &mut
 
 // With the tables of the file's own edition, and that of the declarant alone of the two.
 fn judged(file: &[u8], room: usize, table: &mut [u32], totals: &mut [u64]) -> Answer
-    ensures { Judged (edition_of file.now) file.now room table.old table.new
-        totals.old totals.new result }
+    ensures judged { Judged (edition_of file.now) file.now room table.old table.new result }
+    ensures totals { totals.new ≡ totals_in (total_by (edition_of file.now) file.now room) totals.old }
 {
     let e = editions::edition_of(file);
     if third_kind(e, file) == 3 {

@@ -3,10 +3,11 @@ use Rattle.dirf.specs.Edition.{Edition, edition2025, edition2022}
 use Rattle.dirf.specs.Editions.{EditionName, edition_named}
 use Rattle.dirf.specs.Theorems.Sound.{Sound}
 use Rattle.dirf.specs.Theorems.Demands.{Demands}
+use Rattle.dirf.specs.Theorems.Totals.{Totals}
 use Rattle.dirf.proofs.rules.Columns.{columns_hold, writer_columns_hold}
 use Rattle.dirf.proofs.breaches.TestsSay.{tests_say}
 use Rattle.dirf.proofs.files.Answered.{answered, only, accepted_exactly}
-use Rattle.dirf.proofs.tables.Editions.{sound2025, sound2022, sound_named}
+use Rattle.dirf.proofs.tables.Editions.{sound2025, sound2022, sound_named, amounts_named}
 use Rattle.dirf.proofs.files.GoodSoFar.{good_so_far}
 use Rattle.dirf.proofs.tree.Whose.{whose}
 use Rattle.dirf.proofs.tree.Groups.{grouped}
@@ -33,7 +34,6 @@ demands e sound =
       groups = λ file room. grouped (whose e sound file room);
       entries = entries e sound;
       finds = finds_all e sound;
-      totals = totals e sound;
     }
 
 pub demands2025 : Demands edition2025
@@ -44,3 +44,6 @@ demands2022 = demands edition2022 sound2022
 
 pub demands_named : (n : EditionName) → Demands (edition_named n)
 demands_named n = demands (edition_named n) (sound_named n)
+
+pub totals_named : (n : EditionName) → Totals (edition_named n)
+totals_named n = totals (edition_named n) (sound_named n) (amounts_named n)

@@ -387,9 +387,9 @@ stands_once k = is_in k values
 abbrev pub is_value : ℕ → Bool
 is_value k = is_in k values || is_in k reimbursements
 
--- Does nothing ever stand below a record of this kind? Below a value record.
+-- Does nothing ever stand below a record of this kind? Below a value record, with a key or without.
 unfoldable pub opens_nothing : ℕ → Bool
-opens_nothing k = is_value k
+opens_nothing k = is_in k values || is_in k reimbursements
 
 -- to compute with this file: `unfolding kinds_opens`
 unfoldable pub kinds_opens : Unit {0}

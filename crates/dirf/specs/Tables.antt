@@ -85,6 +85,9 @@ pub record RowsRight (e : Edition) : Type 0 where
   pub lines : (k : ℕ) → longest (rows_of e k) ≤ line_limit
   pub held : (k : ℕ) → every (λ r. goes_with r.holds r) (rows_of e k) ≡ true
   pub dates : (k : ℕ) → every (λ r. date_sized r.format r) (rows_of e k) ≡ true
+
+-- the rows of each value record that the edition names have its amounts where its kind says
+pub record AmountsRight (e : Edition) : Type 0 where
   pub amounts : every (λ n. not (is_value n.0) || amount_rows n.0 1 (rows_of e n.0)) e.names ≡ true
 
 -- each kind is one thing: a record that stands alone, an IDREC, a block, a beneficiary, a pension, a value record, an operator, holder or
@@ -111,10 +114,13 @@ pub record KindsRight (e : Edition) : Type 0 where
   -- a kind has field rows exactly when it is in the base
   pub laid_out : every (λ k. eqb (if is_base e k then 1 else 0) (if leb 1 (length (rows_of e k)) then 1 else 0)) (kinds_of e) ≡ true
 
--- kinds, how many of them are in the base, how many have a total, their field rows, and the bytes of the longest line
-pub record Counted (e : Edition) (kinds base totals rows bytes : ℕ) : Type 0 where
+-- kinds, how many of them are in the base, their field rows, and the bytes of the longest line
+pub record Counted (e : Edition) (kinds base rows bytes : ℕ) : Type 0 where
   pub all : length (kinds_of e) ≡ kinds
   pub taken : count (is_base e) (kinds_of e) ≡ base
-  pub totalled : count (λ k. ltb 0 (amount_count k)) (kinds_of e) ≡ totals
   pub laid_out_lem : sum (map (λ k. length (rows_of e k)) (kinds_of e)) ≡ rows
   pub longest_line : largest_of (map (λ k. longest (rows_of e k)) (kinds_of e)) ≡ bytes
+
+-- and how many of them have a total
+pub record Totalled (e : Edition) (totals : ℕ) : Type 0 where
+  pub totalled : count (λ k. ltb 0 (amount_count k)) (kinds_of e) ≡ totals

@@ -10,4 +10,4 @@ pub returns : goal.returns
 unfolding answer_to total_of
 returns c =
     let w = c.judged.ensures in
-    record { answer = w.answer; entries = w.entries ∙ all_within _ _ (files.counts _ _).fits; totals = w.totals }
+    record { answer = w.judged.answer; entries = w.judged.entries ∙ all_within _ _ (files.counts _ _).fits; totals = w.totals }

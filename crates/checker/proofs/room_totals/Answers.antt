@@ -5,4 +5,4 @@ use Rattle.checker.proofs.room_totals.Goals as goal
 
 pub returns : goal.returns
 unfolding answer_to total_of
-returns c = let w = c.judged.ensures in record { answer = w.answer; totals = w.totals }
+returns c = let w = c.judged.ensures in record { answer = w.judged.answer; totals = w.totals }

@@ -3,6 +3,8 @@ use mathlib.Core.Path.{◌≡◌, ap}
 use native.Mathlib.Omega.{arith}
 use Rattle.dirf.specs.Check.{entry_numbers}
 use Rattle.dirf.specs.Rules.{keeps}
+use Rattle.dirf.proofs.tables.Editions.{amounts_named}
+use Rattle.editions.specs.Editions.{edition_says}
 use Rattle.rules.proofs.Laws.{finding_says}
 use Rattle.checker.specs.State.{last_in, state_after, past_after, Near}
 use Rattle.checker.specs.Turn.{Fits, looked_found, entry_of}
@@ -16,7 +18,7 @@ use Rattle.checker.proofs.walk.Goals as goal
 pub loop-e-init : goal.loop-e-init
 unfolding entry_numbers state_after
 loop-e-init c =
-    held_start _ c.requires.sound
+    held_start _ c.requires.sound (amounts_named (edition_says c.args.e))
     c.clear.ensures c.start-st.ensures c.nothing-past.ensures
 
 pub turn-s-requires : goal.turn-s-requires
@@ -28,8 +30,8 @@ turn-s-requires c =
 pub returns-then-s : goal.returns-then-s
 returns-then-s c =
     let stepped : Step c.loop-e.invariant.reading c.turn-s.result = turn_step c.loop-e.invariant c.requires c.turn-s.result c.turn-s.ensures in
-    as_lent c.clear.ensures
-    (answered c.loop-e.invariant _ (stepped.stops c.if-s.true))
+    let w = as_lent c.clear.ensures (answered c.loop-e.invariant _ (stepped.stops c.if-s.true)) in
+    record { judged = w.judged; totals = w.totals }
 
 pub offset_bounds-past-i : goal.offset_bounds-past-i
 unfolding entry_numbers state_after
@@ -99,8 +101,9 @@ returns-then-f-ne0 c =
     let stepped : Step c.loop-e.invariant.reading c.turn-s.result = turn_step c.loop-e.invariant c.requires c.turn-s.result c.turn-s.ensures in
     let on : On c.loop-e.invariant.reading c.turn-s.result.read = stepped.goes c.if-s.false in
     let q = finding_says _ c.looked-f.ensures c.if-f-ne0.true in
+    let w = as_lent c.clear.ensures (answered c.loop-e.invariant _ (on.refuses _ _ q)) in
     rw c.refused.ensures
-    (as_lent c.clear.ensures (answered c.loop-e.invariant _ (on.refuses _ _ q)))
+    (record { judged = w.judged; totals = w.totals })
 
 pub refused-requires-then-room-st : goal.refused-requires-then-room-st
 unfolding entry_numbers state_after
@@ -114,9 +117,10 @@ returns-then-room-st c =
     let stepped : Step c.loop-e.invariant.reading c.turn-s.result = turn_step c.loop-e.invariant c.requires c.turn-s.result c.turn-s.ensures in
     let on : On c.loop-e.invariant.reading c.turn-s.result.read = stepped.goes c.if-s.false in
     let kept : let l = c.loop-e in let r = c.turn-s.result.read in looked_found c.args.file.now l.st r (last_in l.past r.kind) ≡ keeps = keeps_all _ c.looked-f.ensures (looked_numbered _ _ _ _) c.if-f-ne0.false in
+    let w = as_lent c.clear.ensures
+    (answered c.loop-e.invariant _ (on.full kept c.if-room-st.true)) in
     rw c.refused-then-room-st.ensures
-    (as_lent c.clear.ensures
-    (answered c.loop-e.invariant _ (on.full kept c.if-room-st.true)))
+    (record { judged = w.judged; totals = w.totals })
 
 pub entry_of-entry-requires : goal.entry_of-entry-requires
 unfolding entry_numbers state_after

@@ -13,4 +13,4 @@ walk-requires c =
     all
 
 pub returns : goal.returns
-returns c = c.walk.ensures
+returns c = record { judged = c.walk.ensures.judged; totals = c.walk.ensures.totals }

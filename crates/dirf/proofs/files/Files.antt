@@ -23,14 +23,15 @@ use Rattle.dirf.specs.Theorems.Breach.{misplaced, count, missing, invalid}
 use Rattle.dirf.specs.Theorems.Answered.{recs, Right, LinesRight, Closed, Accepted}
 use Rattle.dirf.specs.Theorems.GoodSoFar.{Whole, empty, ends_in_CR_LF, line_ends, Unfinished, GoodSoFar, GoodUpToHere}
 use Rattle.dirf.specs.Theorems.Demands.{Demands}
-use Rattle.dirf.specs.Theorems.Files.{Files}
+use Rattle.dirf.specs.Theorems.Files.{Files, FilesTotals}
+use Rattle.dirf.specs.Theorems.Totals.{Totals}
 use Rattle.dirf.proofs.tests.Bools.{by_answer}
 use Rattle.dirf.proofs.tests.Says.{same_says}
 use Rattle.dirf.proofs.tests.Lists.{every_in}
 use Rattle.dirf.proofs.rules.Columns.{columns_hold}
 use Rattle.dirf.proofs.files.WholeLaws.{ends_line}
 use Rattle.dirf.proofs.files.Line1.{line1_stays}
-use Rattle.dirf.proofs.Demands.{demands_named}
+use Rattle.dirf.proofs.Demands.{demands_named, totals_named}
 
 -- what is written after a whole line 1 leaves the edition as it is
 for_good : (s t : Text) → 1 ≤ line_ends s → edition_name_of (s ++ t) ≡ edition_name_of s
@@ -119,6 +120,10 @@ of : (file : Text) → Demands (edition_of file)
 unfolding edition_of
 of file = demands_named (edition_name_of file)
 
+totals_of : (file : Text) → Totals (edition_of file)
+unfolding edition_of
+totals_of file = totals_named (edition_name_of file)
+
 -- the empty file is open, whatever the edition
 open_yet : (e : Edition) (room : ℕ) → (verdict e [] room).number ≤ 1
 unfolding pieces verdict run no_bytes_left closed refused
@@ -167,7 +172,7 @@ totals_final s room u refused t k = go s u refused u.whole
     go : (s : Text) → Unfinished s room → ((answer_to s room).number ≤ 1 → ⊥) → Whole s → total_of (s ++ t) room k ≡ total_of s room k
     go s u refused empty = absurd (refused (open_yet (edition_of []) room))
     go s u refused (ends_in_CR_LF l) =
-        ap (λ n. total_by (edition_named n) (s ++ t) room k) (for_good s t (ends_line l)) ∙ (of s).totals.final s room u refused t k
+        ap (λ n. total_by (edition_named n) (s ++ t) room k) (for_good s t (ends_line l)) ∙ (totals_of s).final s room u refused t k
 
 pub files : Files
 unfolding answer_to
@@ -183,10 +188,11 @@ files =
       groups = λ file. (of file).groups file;
       entries = λ file. (of file).entries file;
       finds = λ file. (of file).finds file;
-      totals = λ file. (of file).totals;
       good_so_far = good_so_far;
-      totals_final = totals_final;
       for_good = for_good;
       of_either = of_either;
       by_its_own = by_its_own;
     }
+
+pub files_totals : FilesTotals
+files_totals = record { totals = totals_of; totals_final = totals_final }

@@ -16,21 +16,30 @@ use Rattle.dirf.specs.Edition.{Edition, kind_of, name_of, rows_of, edition2025, 
 use Rattle.dirf.specs.Editions.{EditionName, of2025, of2022, edition_named}
 use Rattle.dirf.specs.LineWriter.{sum}
 use Rattle.dirf.specs.Totals.{is_amount}
-use Rattle.dirf.specs.Tables.{Counted, count, largest_of, first_amount, amount_count, amount_at, amount_rows}
+use Rattle.dirf.specs.Tables.{AmountsRight, Counted, Totalled, count, largest_of, first_amount, amount_count, amount_at, amount_rows}
 use Rattle.dirf.specs.Tree.{Rec, opening, may_stand}
 use Rattle.dirf.specs.Order.{kind_of_line}
 use Rattle.dirf.specs.Theorems.Belongs.{belongs_opens}
 use Rattle.dirf.specs.Theorems.Sound.{rising, KeptAfter, Closable, Sound}
-use Rattle.dirf.proofs.tables.Tested.{below_test, tests, Tested, sound}
+use Rattle.dirf.proofs.tables.Tested.{below_test, tests, Tested, sound, amounts_right}
 
--- 73 kinds, 66 of them in the base, 40 with a total, 622 field rows; in the older edition RTDS and ESDS with their 14 rows each are missing
-pub counted2025 : Counted edition2025 73 66 40 622 211
-unfolding bytes_opens kinds_opens edition_opens sum count largest_of amount_count
-counted2025 = record { all = refl; taken = refl; totalled = refl; laid_out_lem = refl; longest_line = refl }
+-- 73 kinds, 66 of them in the base, 622 field rows; in the older edition RTDS and ESDS with their 14 rows each are missing
+pub counted2025 : Counted edition2025 73 66 622 211
+unfolding bytes_opens kinds_opens edition_opens sum count largest_of
+counted2025 = record { all = refl; taken = refl; laid_out_lem = refl; longest_line = refl }
 
-pub counted2022 : Counted edition2022 71 64 38 594 211
-unfolding bytes_opens kinds_opens edition_opens sum count largest_of amount_count
-counted2022 = record { all = refl; taken = refl; totalled = refl; laid_out_lem = refl; longest_line = refl }
+pub counted2022 : Counted edition2022 71 64 594 211
+unfolding bytes_opens kinds_opens edition_opens sum count largest_of
+counted2022 = record { all = refl; taken = refl; laid_out_lem = refl; longest_line = refl }
+
+-- 40 kinds have a total, 38 in the older edition
+pub totalled2025 : Totalled edition2025 40
+unfolding bytes_opens kinds_opens edition_opens count amount_count
+totalled2025 = record { totalled = refl }
+
+pub totalled2022 : Totalled edition2022 38
+unfolding bytes_opens kinds_opens edition_opens count amount_count
+totalled2022 = record { totalled = refl }
 
 -- the lists of an edition
 abbrev under_DECPF : EditionName → Children
@@ -116,3 +125,6 @@ sound2025 = sound_named of2025
 pub sound2022 : Sound edition2022
 unfolding edition_named
 sound2022 = sound_named of2022
+
+pub amounts_named : (n : EditionName) → AmountsRight (edition_named n)
+amounts_named n = amounts_right (tested n)

@@ -15,7 +15,7 @@ use Rattle.dirf.specs.Row.{obligatory, identifier}
 use Rattle.dirf.specs.Below.{Children, by_declarant}
 use Rattle.dirf.specs.Edition.{Edition, kind_of, rows_of, is_base}
 use Rattle.dirf.specs.LineWriter.{sum}
-use Rattle.dirf.specs.Tables.{longest, goes_with, date_sized, amount_rows, RowsRight, sorts, kinds_of, count}
+use Rattle.dirf.specs.Tables.{longest, goes_with, date_sized, amount_rows, RowsRight, AmountsRight, sorts, kinds_of, count}
 use Rattle.dirf.specs.Theorems.Plain.{◌∈◌}
 use Rattle.dirf.specs.Theorems.Belongs.{parents_of}
 use Rattle.dirf.specs.Theorems.Sound.{rising, first_of, Closable, Sound}
@@ -72,8 +72,11 @@ module _ {e : Edition} {pf pj : Children} (t : Tested e pf pj) where
             leb-true (longest (rows_of e k)) line_limit (in_group (λ rs. leb (longest rs) line_limit) refl e.layout (passes 1) k);
         held = in_group (every (λ r. goes_with r.holds r)) refl e.layout (passes 2);
         dates = in_group (every (λ r. date_sized r.format r)) refl e.layout (passes 3);
-        amounts = passes 8;
       }
+
+  pub amounts_right : AmountsRight e
+  unfolding tests
+  amounts_right = record { amounts = passes 8 }
 
   -- of either declarant's list
   below_tested : (d h : ℕ) → below_test h (lookup [] (e.below d) h) ≡ true

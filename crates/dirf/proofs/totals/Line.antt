@@ -21,7 +21,7 @@ use Rattle.dirf.specs.Order.{kind_of_line}
 use Rattle.dirf.specs.FieldReader.{field_there, width_of, field_start}
 use Rattle.dirf.specs.LineWriter.{sum}
 use Rattle.dirf.specs.Totals.{added}
-use Rattle.dirf.specs.Tables.{yearly, first_amount, amount_count, from_amounts, amount_rows}
+use Rattle.dirf.specs.Tables.{yearly, first_amount, amount_count, from_amounts, amount_rows, AmountsRight}
 use Rattle.dirf.specs.Theorems.Sound.{Sound}
 use Rattle.dirf.specs.Theorems.Totals.{largest_line}
 use Rattle.dirf.proofs.tests.Bools.{if_cases, by_answer, and_left, and_right}
@@ -109,12 +109,12 @@ only_its_own e k line some =
     (λ q. let none : 0 < 0 = rw (q, and-false (is_value k)) at some in absurd (omega arith)))
     (λ v. let none : 0 < 0 = rw v at some in absurd (omega arith))
 
-module _ (e : Edition) (sound : Sound e) where
+module _ (e : Edition) (sound : Sound e) (right : AmountsRight e) where
   -- what the rows of the kind that an identifier names say
   pub named_rows : (s : Text) → let k = kind_of e s in is_value k ≡ true → amount_rows k 1 (rows_of e k) ≡ true
   unfolding kind_of bytes_opens kinds_opens
   named_rows s v =
-      rw v at (in_names (λ k. not (is_value k) || amount_rows k 1 (rows_of e k)) refl e.names sound.rows.amounts s)
+      rw v at (in_names (λ k. not (is_value k) || amount_rows k 1 (rows_of e k)) refl e.names right.amounts s)
 
   rows_say : (line : Text) → let k = kind_of_line e line in is_value k ≡ true → amount_rows k 1 (rows_of e k) ≡ true
   unfolding kind_of_line

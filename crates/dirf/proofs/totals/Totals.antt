@@ -14,7 +14,7 @@ use Rattle.dirf.specs.Edition.{Edition, kind_of, rows_of}
 use Rattle.dirf.specs.Lines.{Piece, pieces}
 use Rattle.dirf.specs.Check.{table_of, Verdict, accepted, refused, verdict}
 use Rattle.dirf.specs.Totals.{added, total, lines_read, total_by}
-use Rattle.dirf.specs.Tables.{first_amount, amount_count, amount_at}
+use Rattle.dirf.specs.Tables.{first_amount, amount_count, amount_at, AmountsRight}
 use Rattle.dirf.specs.Theorems.Sound.{Sound}
 use Rattle.dirf.specs.Theorems.Answered.{recs, Answer, accepts, unclosed, refuses}
 use Rattle.dirf.specs.Theorems.GoodSoFar.{Whole, line_ends}
@@ -43,10 +43,10 @@ module _ (e : Edition) where
   total_none k other [] = refl
   total_none k other (l ∷ ls) = rw other (zero-add _ ∙ total_none k other ls)
 
-  pub total_bound : Sound e → (k : ℕ) (lines : List Text) → total e k lines ≤ length lines * largest_line
+  pub total_bound : Sound e → AmountsRight e → (k : ℕ) (lines : List Text) → total e k lines ≤ length lines * largest_line
   unfolding total
-  total_bound sound k [] = omega arith
-  total_bound sound k (l ∷ ls) = omega (arith, added_bound e sound k l, total_bound sound k ls)
+  total_bound sound right k [] = omega arith
+  total_bound sound right k (l ∷ ls) = omega (arith, added_bound e sound right k l, total_bound sound right k ls)
 
   -- the lines read of a whole file, to which something is added
   read_on : (s t : Text) (n : ℕ) → Whole s → n ≤ line_ends s → take n (map body (pieces (s ++ t))) ≡ take n (map body (pieces s))
@@ -71,16 +71,16 @@ module _ (e : Edition) where
       go v (unclosed l c) = omega (arith, all (pieces s), count)
       go v (refuses os p qs n f cut l b) = omega (arith, all os, count, ap length cut, length-append os (p ∷ qs))
 
-  pub totals : Sound e → Totals e
+  pub totals : Sound e → AmountsRight e → Totals e
   unfolding total_by lines_read amount_at
-  totals sound =
+  totals sound right =
       record {
         which = λ s v f r m.
             let k = kind_of e s in
             let a = first_amount k in
             let past = a + amount_count k in
             let z : 1 + f - 1 ≡ f = omega arith in
-            subst (λ b. Says b ((a ≤ f) × (f < past))) (sym (at_field k 1 (rows_of e k) (named_rows e sound s v) m ∙ ap (amount_at k) z))
+            subst (λ b. Says b ((a ≤ f) × (f < past))) (sym (at_field k 1 (rows_of e k) (named_rows e sound right s v) m ∙ ap (amount_at k) z))
             (says_and (leb a f) (ltb f past) (leb_says a f) (ltb_says f past));
         own = only_its_own e;
         none = total_none;
@@ -88,7 +88,7 @@ module _ (e : Edition) where
         bounded = λ file room k.
             let n = length (verdict e file room).table in
             let ls = map body (pieces file) in
-            omega (arith, total_bound sound k (take n ls), length-take n ls, (counts e sound file room).few);
+            omega (arith, total_bound sound right k (take n ls), length-take n ls, (counts e sound file room).few);
         fits = omega arith;
         final = λ s room u refused t k.
             let same = (good_so_far e sound s room u).final refused t in

@@ -8,7 +8,6 @@ use Rattle.dirf.specs.Theorems.Whose.{Whose}
 use Rattle.dirf.specs.Theorems.Groups.{Groups}
 use Rattle.dirf.specs.Theorems.Entries.{Entries}
 use Rattle.dirf.specs.Theorems.Found.{Finds}
-use Rattle.dirf.specs.Theorems.Totals.{Totals}
 use Rattle.dirf.specs.Theorems.ThereAndBack.{WriterReadsBack, ReaderWritesBack}
 
 pub record Demands (e : Edition) : Type 0 where
@@ -32,5 +31,3 @@ pub record Demands (e : Edition) : Type 0 where
   pub entries : Entries e
   -- 02, A6: the search answers what reading every line answers
   pub finds : Finds e
-  -- 02, A7: what the totals are of, and that none passes 64 bits
-  pub totals : Totals e

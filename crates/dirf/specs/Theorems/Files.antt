@@ -33,12 +33,8 @@ pub record Files : Type 0 where
       → let t = (answer_to file room).table in
       (n : ℕ) → IsLine t n → kind_at t n ≡ IDREC → (numbers : List ℕ) → take (numbers_an_entry * length t) numbers ≡ numbers_of t
       → (key : Text) → Found file t n key (search_in file numbers n key)
-  pub totals : (file : Text) → Totals (edition_of file)
   -- demand 3
   pub good_so_far : GoodUpToHere edition_of
-  -- and of totals: nothing written after a file that is refused changes one
-  pub totals_final : (s : Text) (room : ℕ) → Unfinished s room → ((answer_to s room).number ≤ 1 → ⊥) → (t : Text) (k : ℕ)
-      → total_of (s ++ t) room k ≡ total_of s room k
   -- a file with a whole line 1 has its edition for good, whatever is written after it
   pub for_good : (s t : Text) → 1 ≤ line_ends s → edition_name_of (s ++ t) ≡ edition_name_of s
   -- for an empty file the four lines that close it are of either edition
@@ -46,3 +42,10 @@ pub record Files : Type 0 where
       → (t : Text) × Whole t × (line_ends t ≤ 4) × (edition_name_of t ≡ n) × Accepted (edition_named n) t room
   -- no file is accepted by the rules of an edition that is not its own
   pub by_its_own : (n : EditionName) (file : Text) (room : ℕ) → Accepted (edition_named n) file room → edition_name_of file ≡ n
+
+-- 02, A7, of every file by its own edition: what the totals are of, and that none passes 64 bits
+pub record FilesTotals : Type 0 where
+  pub totals : (file : Text) → Totals (edition_of file)
+  -- demand 3: nothing written after a file that is refused changes one
+  pub totals_final : (s : Text) (room : ℕ) → Unfinished s room → ((answer_to s room).number ≤ 1 → ⊥) → (t : Text) (k : ℕ)
+      → total_of (s ++ t) room k ≡ total_of s room k

@@ -8,7 +8,7 @@ use lib.ListN.{length, get_or, get_or-eq_default}
 use Rattle.dirf.specs.Bytes.{Text, bytes_opens}
 use Rattle.dirf.specs.Kinds.{values, reimbursements, is_value, kinds_opens}
 use Rattle.dirf.specs.Totals.{total_by, total_of}
-use Rattle.dirf.proofs.files.Files.{files}
+use Rattle.dirf.proofs.files.Files.{files_totals}
 use Rattle.kinds.specs.Kinds.{kinds}
 use Rattle.kinds.proofs.Past.{by_kind, is_in_past}
 use Rattle.checker.specs.Totals.{totals_in}
@@ -26,7 +26,7 @@ at_place file room k t long =
     by_kind k (λ h. total_at (total_of file room) t k h (omega (arith, long)))
     (λ h.
     let over : length (totals_in (total_of file room) t) ≤ k = omega (arith, long, totals_length (total_of file room) t) in
-    get_or-eq_default (totals_in (total_of file room) t) 0 over ∙ sym ((files.totals file).none k (past k h) _))
+    get_or-eq_default (totals_in (total_of file room) t) 0 over ∙ sym ((files_totals.totals file).none k (past k h) _))
 
 pub returns : goal.returns
 returns c =
