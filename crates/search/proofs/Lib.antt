@@ -1,3 +1,4 @@
 pub mod Determined
 pub mod EntryRead
 pub mod Meaning
+pub mod Within

@@ -91,6 +91,7 @@ fn entry_at(table: &[u32], n: u32) -> Entry
 }
 
 // Whether the entry of line n stays within file and table, and does not end before itself.
+#[tactic(auto, using(crate::proofs::Within::within))]
 fn is_within(file: &[u8], table: &[u32], n: u32, e: Entry) -> bool
     requires { e ≡ entry_in table.now n }
     ensures { result ≡ is_within file.now table.now n }

@@ -1,12 +1,15 @@
 -- The loop, for the edition that it is told and that the tables say.
-use Prim.Native.Nat.{suc, ◌-◌}
+use Prim.Native.Nat.{suc, ◌-◌, ◌≤◌}
 use Rattle.dirf.specs.Limits.{lines_limit}
 use Rattle.editions.specs.Editions.{edition_said}
 use Rattle.checker.proofs.Held.{Held}
 use Rattle.checker.proofs.walk.Given as goal
 
 abbrev pub invariant-loop-e : goal.invariant-loop-e
-invariant-loop-e l = Held (edition_said l.e) l.below l.file l.room l.initial.table l.table l.initial.totals l.totals l.st l.past
+invariant-loop-e l = record {
+  held : Held (edition_said l.e) l.below l.file l.room l.initial.table l.table l.initial.totals l.totals l.st l.past;
+  few : l.st.count ≤ lines_limit;
+}
 
 abbrev pub decreases-loop-e : goal.decreases-loop-e
 decreases-loop-e l = suc lines_limit - l.st.count
