@@ -19,7 +19,8 @@ use Rattle.dirf.specs.Rules.{Found, keeps, breaks, given, or_else, ask, first}
 use Rattle.dirf.specs.Tree.{Rec, Open, opening, declarant, number_of_first, place, parent_of}
 use Rattle.dirf.specs.Order.{here, kind_of_line, order, line_opens}
 use Rattle.dirf.specs.Order as parts
-use Rattle.dirf.specs.Check.{entry_of as entry_after, bytes_of, table_of, Verdict, refused, accepted, no_bytes_left, rec_of, breach, after_line}
+use Rattle.dirf.specs.Check.{entry_of as entry_after, bytes_of, table_of, Verdict, refused, accepted, no_bytes_left, rec_of, breach}
+use Rattle.dirf.specs.Check.{after_line}
 use Rattle.dirf.specs.Check.{run, verdict}
 use Rattle.dirf.specs.Theorems.Belongs.{level}
 use Rattle.dirf.specs.Theorems.Sound.{Sound}

@@ -83,7 +83,8 @@ module _ (t : List ℕ) where
 
     -- one entry more, where there is room for it
     put_one : (x : Entry) → length es < m
-        → put_entry (with_numbers ns t) (length es) (entry_numbers x (f (suc (length es)))) ≡ with_numbers (numbers_from f 1 (es ++ (x ∷ []))) t
+        → put_entry (with_numbers ns t) (length es) (entry_numbers x (f (suc (length es))))
+        ≡ with_numbers (numbers_from f 1 (es ++ (x ∷ []))) t
     unfolding put_entry with_numbers entry_numbers
     put_one x room =
         let row = entry_numbers x (f (suc (length es))) in

@@ -1,6 +1,7 @@
 -- The rules that look back, asked of the state, and the state after a record. These are the code's own steps; that they are document
 -- 01's rules is proved of what the state sums up.
-use Rattle.std.specs.Prelude.{ℕ, zero, suc, ◌+◌, ◌*◌, ◌≤◌, ◌<◌, Bool, true, false, ◌&&◌, ◌||◌, not, List, [], eqb, ltb, length, get_or, set, replicate, if◌then◌else◌}
+use Rattle.std.specs.Prelude.{ℕ, zero, suc, ◌+◌, ◌*◌, ◌≤◌, ◌<◌, Bool, true, false, ◌&&◌, ◌||◌, not, List, [], eqb, ltb, length, get_or}
+use Rattle.std.specs.Prelude.{set, replicate, if◌then◌else◌}
 use Rattle.dirf.specs.Bytes.{Text, is_in}
 use Rattle.dirf.specs.Limits.{line_limit, lines_limit}
 use Rattle.dirf.specs.Kinds.{FIMDirf, is_later, opens_nothing, stands_once}

@@ -22,7 +22,8 @@ no_byte [] = refl
 no_byte (b ∷ s) = ne_eqb (length (b ∷ s)) 0 (λ e. omega arith)
 
 -- a kind that has no condition
-pub no_conditions : (k : ℕ) (cells : List Text) → is_in k (PROC ∷ RRA ∷ []) ≡ false → is_in k (DECPF ∷ []) ≡ false → broken_field k cells ≡ 0
+pub no_conditions : (k : ℕ) (cells : List Text) → is_in k (PROC ∷ RRA ∷ []) ≡ false → is_in k (DECPF ∷ [])
+    ≡ false → broken_field k cells ≡ 0
 unfolding ask_conditions condition_order given or_else field_of broken_field
 no_conditions k cells h i = rw (h, i)
 

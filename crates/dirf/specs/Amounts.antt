@@ -68,5 +68,6 @@ write_months value room = write_number month_size value room
 
 -- to compute with this file: `unfolding amounts_opens`
 unfoldable pub amounts_opens : Unit {0}
-unfolding read_as read_number read_amount read_months digits_of over_the_limit too_little_room figure_order write_number write_amount write_months
+unfolding read_as read_number read_amount read_months digits_of over_the_limit too_little_room figure_order write_number write_amount
+    write_months
 amounts_opens = tt

@@ -132,6 +132,7 @@ field_order =
 
 -- to compute with this file: `unfolding fields_opens`
 unfoldable pub fields_opens : Unit {0}
-unfolding is_obligatory right_byte fills_to size_held takes_no_zero dated valid digits_held filled obligatory_field_empty byte_of_the_wrong_kind
+unfolding is_obligatory right_byte fills_to size_held takes_no_zero dated valid digits_held filled obligatory_field_empty
+    byte_of_the_wrong_kind
     wrong_size zero_in_front no_such_date not_a_valid_value wrong_check_digits field_order
 fields_opens = tt

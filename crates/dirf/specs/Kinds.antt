@@ -393,5 +393,6 @@ opens_nothing k = is_in k values || is_in k reimbursements
 
 -- to compute with this file: `unfolding kinds_opens`
 unfoldable pub kinds_opens : Unit {0}
-unfolding later blocks beneficiaries companies pensions values plan reimbursements is_later is_block is_beneficiary stands_once opens_nothing
+unfolding later blocks beneficiaries companies pensions values plan reimbursements is_later is_block is_beneficiary stands_once
+    opens_nothing
 kinds_opens = tt

@@ -140,8 +140,10 @@ order = limits ++ line_ends ++ kind ++ place ++ over (λ h. h.contents) (field_c
 
 -- to compute with this file: `unfolding order_opens`; `line_opens` leaves shut what looks at the lines before
 unfoldable pub line_opens : Unit {0}
-unfolding contents_of kind_of_line here line_number bytes_follow_FIMDirf too_many_lines line_too_long nothing_or_CR input_ends stray_line_end
-    no_bar_at_the_end identifier_unknown left_for_later may_not_stand_here wrong_number_of_fields value_record_repeated key_not_greater no_room order
+unfolding contents_of kind_of_line here line_number bytes_follow_FIMDirf too_many_lines line_too_long nothing_or_CR input_ends
+    stray_line_end
+    no_bar_at_the_end identifier_unknown left_for_later may_not_stand_here wrong_number_of_fields value_record_repeated key_not_greater
+    no_room order
 line_opens = tt
 
 unfoldable pub order_opens : Unit {0}

@@ -1,5 +1,6 @@
 -- What is proved once over the tables, by computed tests.
-use Rattle.std.specs.Prelude.{ℕ, suc, ◌+◌, ◌≤◌, max, ◌≡◌, Bool, true, false, ◌&&◌, ◌||◌, not, List, [], ◌∷◌, ◌++◌, map, leb, ltb, eqb, length, drop, if◌then◌else◌}
+use Rattle.std.specs.Prelude.{ℕ, suc, ◌+◌, ◌≤◌, max, ◌≡◌, Bool, true, false, ◌&&◌, ◌||◌, not, List, [], ◌∷◌, ◌++◌, map, leb, ltb, eqb}
+use Rattle.std.specs.Prelude.{length, drop, if◌then◌else◌}
 use Rattle.dirf.specs.Bytes.{Text, every, is_in}
 use Rattle.dirf.specs.Limits.{line_limit}
 use Rattle.dirf.specs.Kinds.{IDREC, RIL96, RIPTS, RIJMRE, RIRSR, RIO, alone, blocks, beneficiaries, pensions, values, plan}
@@ -44,7 +45,8 @@ goes_with telephone r = digits_up_to 9 r
 goes_with cpf r = digits_fixed 11 r
 goes_with cnpj r = digits_fixed 14 r
 goes_with cpf_or_cnpj r = digits_up_to 14 r
-goes_with plain r = not (digits_up_to 13 r || digits_fixed 2 r || digits_up_to 9 r || digits_fixed 11 r || digits_fixed 14 r || digits_up_to 14 r)
+goes_with plain r = not (digits_up_to 13 r || digits_fixed 2 r || digits_up_to 9 r || digits_fixed 11 r || digits_fixed 14 r ||
+    digits_up_to 14 r)
 goes_with (one_of vs) r = every (λ v. eqb (length v) r.size) vs
 
 -- 01, "Fields": "D: year, month, day": four, two and two digits

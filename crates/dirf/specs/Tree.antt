@@ -106,6 +106,7 @@ may_stand e before k =
 
 -- to compute with this file: `unfolding tree_opens`
 unfoldable pub tree_opens : Unit {0}
-unfolding from opened opening declarant block_of suits may_hold kind_of_first number_of_first place_in place parent_of may_follow in_order is_placed
+unfolding from opened opening declarant block_of suits may_hold kind_of_first number_of_first place_in place parent_of may_follow
+    in_order is_placed
     may_stand
 tree_opens = tt

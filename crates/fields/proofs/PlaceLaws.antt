@@ -14,7 +14,8 @@ use Rattle.dirf.specs.Lines.{more, fields, field}
 use Rattle.dirf.specs.Keys.{fewer_digits_first, key_of}
 use Rattle.dirf.proofs.tests.Bools.{if_cases, by_answer}
 use Rattle.fields.specs.declared.Places.{Places}
-use Rattle.fields.specs.Places.{part_of, most_fields, no_places, add_place, places_from, places_of, cell_at, cells_from, cells_at, key_parts}
+use Rattle.fields.specs.Places.{part_of, most_fields, no_places, add_place, places_from, places_of, cell_at, cells_from, cells_at}
+use Rattle.fields.specs.Places.{key_parts}
 use Rattle.fields.specs.Places.{bar_in}
 use Rattle.fields.proofs.Bars.{cut, uncut}
 use Rattle.fields.proofs.Keys.{by_kind}

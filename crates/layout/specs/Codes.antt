@@ -14,7 +14,14 @@ no_codes = record { format = 0; fill = 0; size = 0; need = 0; holds = 0 }
 unfoldable pub row_codes : List ℕ → ℕ → ℕ → Row
 row_codes t k i =
     if ltb k kinds && ltb i most_fields
-    then record { format = byte_in t k i 0; fill = byte_in t k i 1; size = byte_in t k i 2; need = byte_in t k i 3; holds = byte_in t k i 4 }
+    then record {
+      format = byte_in t k i 0;
+      fill = byte_in t k i 1;
+      size = byte_in t k i 2;
+      need = byte_in t k i 3;
+      holds = byte_in t k
+          i 4;
+    }
     else no_codes
 
 -- the field row that five bytes say

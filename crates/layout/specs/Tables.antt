@@ -1,5 +1,6 @@
 -- The tables as they are lent: what they hold, and what they say of whoever reads them.
-use Rattle.std.specs.Prelude.{ℕ, ◌+◌, ◌*◌, ◌-◌, min, Bool, true, false, ◌&&◌, not, List, [], ◌∷◌, ◌++◌, map, eqb, ltb, length, get_or, take, drop, replicate, if◌then◌else◌}
+use Rattle.std.specs.Prelude.{ℕ, ◌+◌, ◌*◌, ◌-◌, min, Bool, true, false, ◌&&◌, not, List, [], ◌∷◌, ◌++◌, map, eqb, ltb, length, get_or}
+use Rattle.std.specs.Prelude.{take, drop, replicate, if◌then◌else◌}
 use Rattle.dirf.specs.Bytes.{Text, bytes, is_in, lookup}
 use Rattle.dirf.specs.Kinds.{is_later}
 use Rattle.dirf.specs.Row.{Row, row, Format, C, N, D, Fill, fixed, variable, Need, obligatory, optional}

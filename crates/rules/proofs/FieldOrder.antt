@@ -60,7 +60,8 @@ module _ (name : Text) (r : Row) where
 
   pub nothing : (s : Text) → number_of (ask_field 0 field_order name r s) ≡ 0 → ask_field 0 field_order name r s ≡ keeps
   unfolding every field_order number_of
-  nothing s e = nothing_found number_of (λ n f. refl) (ask_field 0 field_order name r s) (field_passes (ltb 0) 0 field_order name r s refl) e
+  nothing s e = nothing_found number_of (λ n f. refl) (ask_field 0 field_order name r s)
+      (field_passes (ltb 0) 0 field_order name r s refl) e
 
 -- what is kept by a number of so many digits
 pub kept_digits : (r : Row) (s : Text) → r.format ≡ N → r.size ≤ 18 → ask_field 0 field_order [] r s ≡ keeps

@@ -21,7 +21,8 @@ or_keeps (breaks n f) = refl
 
 module _ (k : ℕ) (name : Text) (rows : List Row) (cells : List Text) where
   -- 13 to 18 and 26 field by field, then 19
-  pub in_parts : contents_found k name rows cells ≡ or_else (ask_fields 1 field_order name rows cells) (ask_conditions 19 condition_order k cells)
+  pub in_parts : contents_found k name rows cells
+      ≡ or_else (ask_fields 1 field_order name rows cells) (ask_conditions 19 condition_order k cells)
   unfolding first ask contents_found
   in_parts = ap (or_else (ask_fields 1 field_order name rows cells)) (or_keeps (ask_conditions 19 condition_order k cells))
 

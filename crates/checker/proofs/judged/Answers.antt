@@ -23,9 +23,17 @@ own_totals {n} file room first {last} e = subst (λ n. last ≡ totals_in (total
 pub returns-then-third_kind-eq3 : goal.returns-then-third_kind-eq3
 returns-then-third_kind-eq3 c =
     let w = c.walk_pf.ensures in
-    record { judged = own c.edition_of-e.ensures w.judged; totals = own_totals c.args.file.now c.args.room c.args.totals.now c.edition_of-e.ensures w.totals }
+    record {
+      judged = own c.edition_of-e.ensures w.judged;
+      totals = own_totals c.args.file.now c.args.room c.args.totals.now
+          c.edition_of-e.ensures w.totals;
+    }
 
 pub returns : goal.returns
 returns c =
     let w = c.walk_pj.ensures in
-    record { judged = own c.edition_of-e.ensures w.judged; totals = own_totals c.args.file.now c.args.room c.args.totals.now c.edition_of-e.ensures w.totals }
+    record {
+      judged = own c.edition_of-e.ensures w.judged;
+      totals = own_totals c.args.file.now c.args.room c.args.totals.now
+          c.edition_of-e.ensures w.totals;
+    }

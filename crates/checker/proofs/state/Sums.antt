@@ -12,7 +12,8 @@ use borrow.Author.Tests.{lt-ltb, le-ltb}
 use Rattle.dirf.specs.Bytes.{Text, is_in}
 use Rattle.dirf.specs.Kinds.{FIMDirf}
 use Rattle.dirf.specs.Edition.{Edition}
-use Rattle.dirf.specs.Tree.{Rec, Open, opened, opening, declarant, may_hold, kind_of_first, number_of_first, Place, place_in, place, parent_of}
+use Rattle.dirf.specs.Tree.{Rec, Open, opened, opening, declarant, may_hold, kind_of_first, number_of_first, Place, place_in, place}
+use Rattle.dirf.specs.Tree.{parent_of}
 use Rattle.dirf.specs.Tree.{in_order, is_placed, may_stand}
 use Rattle.dirf.specs.Order.{closed}
 use Rattle.dirf.specs.Check.{bytes_of}

@@ -60,7 +60,8 @@ module _ (e : Edition) (before : List Rec) (line : Text) where
   -- 11, then 13 to 19 and 26
   abbrev fill_rule : Found
   fill_rule =
-      or_else (given 11 0 (not (eqb (length (fields line)) (length (rows_of e k))))) (contents_found k (name_of e k) (rows_of e k) (fields line))
+      or_else (given 11 0 (not (eqb (length (fields line)) (length (rows_of e k))))) (contents_found k (name_of e k) (rows_of e k)
+      (fields line))
 
   -- 21 and 20
   abbrev pub look_rule : Found

@@ -18,7 +18,8 @@ use Rattle.checker.proofs.walk.Goals as goal
 pub loop-e-init : goal.loop-e-init
 unfolding entry_numbers state_after
 loop-e-init c =
-    let held = held_start _ c.requires.sound (amounts_named (edition_says c.args.e)) c.clear.ensures c.start-st.ensures c.nothing-past.ensures in
+    let held = held_start _ c.requires.sound (amounts_named (edition_says c.args.e)) c.clear.ensures c.start-st.ensures
+    c.nothing-past.ensures in
     record { held = held; few = (near held.reading).few }
 
 pub turn-s-requires : goal.turn-s-requires
@@ -29,14 +30,16 @@ turn-s-requires c =
 
 pub returns-then-s : goal.returns-then-s
 returns-then-s c =
-    let stepped : Step c.loop-e.invariant.held.reading c.turn-s.result = turn_step c.loop-e.invariant.held c.requires c.turn-s.result c.turn-s.ensures in
+    let stepped : Step c.loop-e.invariant.held.reading c.turn-s.result =
+    turn_step c.loop-e.invariant.held c.requires c.turn-s.result c.turn-s.ensures in
     let w = as_lent c.clear.ensures (answered c.loop-e.invariant.held _ (stepped.stops c.if-s.true)) in
     record { judged = w.judged; totals = w.totals }
 
 pub offset_bounds-past-i : goal.offset_bounds-past-i
 unfolding entry_numbers state_after
 offset_bounds-past-i c =
-    let stepped : Step c.loop-e.invariant.held.reading c.turn-s.result = turn_step c.loop-e.invariant.held c.requires c.turn-s.result c.turn-s.ensures in
+    let stepped : Step c.loop-e.invariant.held.reading c.turn-s.result =
+    turn_step c.loop-e.invariant.held c.requires c.turn-s.result c.turn-s.ensures in
     let on : On c.loop-e.invariant.held.reading c.turn-s.result.read = stepped.goes c.if-s.false in
     let fits : Fits c.loop-e.st c.turn-s.result.read = on.fits in
     omega (arith, fits.kind)
@@ -44,7 +47,8 @@ offset_bounds-past-i c =
 pub bounds-past-i : goal.bounds-past-i
 unfolding entry_numbers state_after
 bounds-past-i c =
-    let stepped : Step c.loop-e.invariant.held.reading c.turn-s.result = turn_step c.loop-e.invariant.held c.requires c.turn-s.result c.turn-s.ensures in
+    let stepped : Step c.loop-e.invariant.held.reading c.turn-s.result =
+    turn_step c.loop-e.invariant.held c.requires c.turn-s.result c.turn-s.ensures in
     let on : On c.loop-e.invariant.held.reading c.turn-s.result.read = stepped.goes c.if-s.false in
     let fits : Fits c.loop-e.st c.turn-s.result.read = on.fits in
     omega (arith, fits.kind)
@@ -52,7 +56,8 @@ bounds-past-i c =
 pub offset_bounds-past-i-in-loop-e : goal.offset_bounds-past-i-in-loop-e
 unfolding entry_numbers state_after
 offset_bounds-past-i-in-loop-e c =
-    let stepped : Step c.loop-e.invariant.held.reading c.turn-s.result = turn_step c.loop-e.invariant.held c.requires c.turn-s.result c.turn-s.ensures in
+    let stepped : Step c.loop-e.invariant.held.reading c.turn-s.result =
+    turn_step c.loop-e.invariant.held c.requires c.turn-s.result c.turn-s.ensures in
     let on : On c.loop-e.invariant.held.reading c.turn-s.result.read = stepped.goes c.if-s.false in
     let fits : Fits c.loop-e.st c.turn-s.result.read = on.fits in
     omega (arith, fits.kind)
@@ -60,7 +65,8 @@ offset_bounds-past-i-in-loop-e c =
 pub bounds-past-i-in-loop-e : goal.bounds-past-i-in-loop-e
 unfolding entry_numbers state_after
 bounds-past-i-in-loop-e c =
-    let stepped : Step c.loop-e.invariant.held.reading c.turn-s.result = turn_step c.loop-e.invariant.held c.requires c.turn-s.result c.turn-s.ensures in
+    let stepped : Step c.loop-e.invariant.held.reading c.turn-s.result =
+    turn_step c.loop-e.invariant.held c.requires c.turn-s.result c.turn-s.ensures in
     let on : On c.loop-e.invariant.held.reading c.turn-s.result.read = stepped.goes c.if-s.false in
     let fits : Fits c.loop-e.st c.turn-s.result.read = on.fits in
     omega (arith, fits.kind)
@@ -68,7 +74,8 @@ bounds-past-i-in-loop-e c =
 pub offset_bounds-past-i-in-loop-e-2 : goal.offset_bounds-past-i-in-loop-e-2
 unfolding entry_numbers state_after
 offset_bounds-past-i-in-loop-e-2 c =
-    let stepped : Step c.loop-e.invariant.held.reading c.turn-s.result = turn_step c.loop-e.invariant.held c.requires c.turn-s.result c.turn-s.ensures in
+    let stepped : Step c.loop-e.invariant.held.reading c.turn-s.result =
+    turn_step c.loop-e.invariant.held c.requires c.turn-s.result c.turn-s.ensures in
     let on : On c.loop-e.invariant.held.reading c.turn-s.result.read = stepped.goes c.if-s.false in
     let fits : Fits c.loop-e.st c.turn-s.result.read = on.fits in
     omega (arith, fits.kind)
@@ -76,7 +83,8 @@ offset_bounds-past-i-in-loop-e-2 c =
 pub bounds-past-i-in-loop-e-2 : goal.bounds-past-i-in-loop-e-2
 unfolding entry_numbers state_after
 bounds-past-i-in-loop-e-2 c =
-    let stepped : Step c.loop-e.invariant.held.reading c.turn-s.result = turn_step c.loop-e.invariant.held c.requires c.turn-s.result c.turn-s.ensures in
+    let stepped : Step c.loop-e.invariant.held.reading c.turn-s.result =
+    turn_step c.loop-e.invariant.held c.requires c.turn-s.result c.turn-s.ensures in
     let on : On c.loop-e.invariant.held.reading c.turn-s.result.read = stepped.goes c.if-s.false in
     let fits : Fits c.loop-e.st c.turn-s.result.read = on.fits in
     omega (arith, fits.kind)
@@ -84,7 +92,8 @@ bounds-past-i-in-loop-e-2 c =
 pub looked-f-requires : goal.looked-f-requires
 unfolding entry_numbers state_after
 looked-f-requires c =
-    let stepped : Step c.loop-e.invariant.held.reading c.turn-s.result = turn_step c.loop-e.invariant.held c.requires c.turn-s.result c.turn-s.ensures in
+    let stepped : Step c.loop-e.invariant.held.reading c.turn-s.result =
+    turn_step c.loop-e.invariant.held c.requires c.turn-s.result c.turn-s.ensures in
     let on : On c.loop-e.invariant.held.reading c.turn-s.result.read = stepped.goes c.if-s.false in
     let fits : Fits c.loop-e.st c.turn-s.result.read = on.fits in
     fits.outer
@@ -92,7 +101,8 @@ looked-f-requires c =
 pub returns-then-f-ne0 : goal.returns-then-f-ne0
 unfolding last_in
 returns-then-f-ne0 c =
-    let stepped : Step c.loop-e.invariant.held.reading c.turn-s.result = turn_step c.loop-e.invariant.held c.requires c.turn-s.result c.turn-s.ensures in
+    let stepped : Step c.loop-e.invariant.held.reading c.turn-s.result =
+    turn_step c.loop-e.invariant.held c.requires c.turn-s.result c.turn-s.ensures in
     let on : On c.loop-e.invariant.held.reading c.turn-s.result.read = stepped.goes c.if-s.false in
     let q = finding_says _ c.looked-f.ensures c.if-f-ne0.true in
     let w = as_lent c.clear.ensures (answered c.loop-e.invariant.held _ (on.refuses _ _ q)) in
@@ -101,9 +111,11 @@ returns-then-f-ne0 c =
 pub returns-then-room-st : goal.returns-then-room-st
 unfolding last_in
 returns-then-room-st c =
-    let stepped : Step c.loop-e.invariant.held.reading c.turn-s.result = turn_step c.loop-e.invariant.held c.requires c.turn-s.result c.turn-s.ensures in
+    let stepped : Step c.loop-e.invariant.held.reading c.turn-s.result =
+    turn_step c.loop-e.invariant.held c.requires c.turn-s.result c.turn-s.ensures in
     let on : On c.loop-e.invariant.held.reading c.turn-s.result.read = stepped.goes c.if-s.false in
-    let kept : let l = c.loop-e in let r = c.turn-s.result.read in looked_found c.args.file.now l.st r (last_in l.past r.kind) ≡ keeps = keeps_all _ c.looked-f.ensures (looked_numbered _ _ _ _) (omega arith) in
+    let kept : let l = c.loop-e in let r = c.turn-s.result.read in looked_found c.args.file.now l.st r (last_in l.past r.kind)
+    ≡ keeps = keeps_all _ c.looked-f.ensures (looked_numbered _ _ _ _) (omega arith) in
     let w = as_lent c.clear.ensures
     (answered c.loop-e.invariant.held _ (on.full kept c.if-room-st.true)) in
     record { judged = record { answer = cc (w.judged.answer); entries = w.judged.entries }; totals = w.totals }
@@ -111,7 +123,8 @@ returns-then-room-st c =
 pub entry_of-entry-requires : goal.entry_of-entry-requires
 unfolding entry_numbers state_after
 entry_of-entry-requires c =
-    let stepped : Step c.loop-e.invariant.held.reading c.turn-s.result = turn_step c.loop-e.invariant.held c.requires c.turn-s.result c.turn-s.ensures in
+    let stepped : Step c.loop-e.invariant.held.reading c.turn-s.result =
+    turn_step c.loop-e.invariant.held c.requires c.turn-s.result c.turn-s.ensures in
     let on : On c.loop-e.invariant.held.reading c.turn-s.result.read = stepped.goes c.if-s.false in
     let fits : Fits c.loop-e.st c.turn-s.result.read = on.fits in
     fits
@@ -131,17 +144,20 @@ put_entry-requires c =
 pub put_lasts-requires : goal.put_lasts-requires
 unfolding entry_numbers state_after last_in
 put_lasts-requires c =
-    let stepped : Step c.loop-e.invariant.held.reading c.turn-s.result = turn_step c.loop-e.invariant.held c.requires c.turn-s.result c.turn-s.ensures in
+    let stepped : Step c.loop-e.invariant.held.reading c.turn-s.result =
+    turn_step c.loop-e.invariant.held c.requires c.turn-s.result c.turn-s.ensures in
     let on : On c.loop-e.invariant.held.reading c.turn-s.result.read = stepped.goes c.if-s.false in
     let fits : Fits c.loop-e.st c.turn-s.result.read = on.fits in
-    let kept : let l = c.loop-e in let r = c.turn-s.result.read in looked_found c.args.file.now l.st r (last_in l.past r.kind) ≡ keeps = keeps_all _ c.looked-f.ensures (looked_numbered _ _ _ _) c.if-f-ne0.false in
+    let kept : let l = c.loop-e in let r = c.turn-s.result.read in looked_found c.args.file.now l.st r (last_in l.past r.kind)
+    ≡ keeps = keeps_all _ c.looked-f.ensures (looked_numbered _ _ _ _) c.if-f-ne0.false in
     let goes : Goes c.loop-e.invariant.held.reading c.turn-s.result.read = on.goes kept c.if-room-st.false in
     (fits.outer, held_lines c.loop-e.invariant.held c.turn-s.result.read goes)
 
 pub offset_bounds-past-i-in-loop-e-3 : goal.offset_bounds-past-i-in-loop-e-3
 unfolding entry_numbers state_after
 offset_bounds-past-i-in-loop-e-3 c =
-    let stepped : Step c.loop-e.invariant.held.reading c.turn-s.result = turn_step c.loop-e.invariant.held c.requires c.turn-s.result c.turn-s.ensures in
+    let stepped : Step c.loop-e.invariant.held.reading c.turn-s.result =
+    turn_step c.loop-e.invariant.held c.requires c.turn-s.result c.turn-s.ensures in
     let on : On c.loop-e.invariant.held.reading c.turn-s.result.read = stepped.goes c.if-s.false in
     let fits : Fits c.loop-e.st c.turn-s.result.read = on.fits in
     omega (arith, fits.kind)
@@ -149,7 +165,8 @@ offset_bounds-past-i-in-loop-e-3 c =
 pub bounds-past-i-in-loop-e-3 : goal.bounds-past-i-in-loop-e-3
 unfolding entry_numbers state_after
 bounds-past-i-in-loop-e-3 c =
-    let stepped : Step c.loop-e.invariant.held.reading c.turn-s.result = turn_step c.loop-e.invariant.held c.requires c.turn-s.result c.turn-s.ensures in
+    let stepped : Step c.loop-e.invariant.held.reading c.turn-s.result =
+    turn_step c.loop-e.invariant.held c.requires c.turn-s.result c.turn-s.ensures in
     let on : On c.loop-e.invariant.held.reading c.turn-s.result.read = stepped.goes c.if-s.false in
     let fits : Fits c.loop-e.st c.turn-s.result.read = on.fits in
     omega (arith, fits.kind)
@@ -157,7 +174,8 @@ bounds-past-i-in-loop-e-3 c =
 pub offset_bounds-past-i-in-loop-e-4 : goal.offset_bounds-past-i-in-loop-e-4
 unfolding entry_numbers state_after
 offset_bounds-past-i-in-loop-e-4 c =
-    let stepped : Step c.loop-e.invariant.held.reading c.turn-s.result = turn_step c.loop-e.invariant.held c.requires c.turn-s.result c.turn-s.ensures in
+    let stepped : Step c.loop-e.invariant.held.reading c.turn-s.result =
+    turn_step c.loop-e.invariant.held c.requires c.turn-s.result c.turn-s.ensures in
     let on : On c.loop-e.invariant.held.reading c.turn-s.result.read = stepped.goes c.if-s.false in
     let fits : Fits c.loop-e.st c.turn-s.result.read = on.fits in
     omega (arith, fits.kind)
@@ -165,7 +183,8 @@ offset_bounds-past-i-in-loop-e-4 c =
 pub bounds-past-i-in-loop-e-4 : goal.bounds-past-i-in-loop-e-4
 unfolding entry_numbers state_after
 bounds-past-i-in-loop-e-4 c =
-    let stepped : Step c.loop-e.invariant.held.reading c.turn-s.result = turn_step c.loop-e.invariant.held c.requires c.turn-s.result c.turn-s.ensures in
+    let stepped : Step c.loop-e.invariant.held.reading c.turn-s.result =
+    turn_step c.loop-e.invariant.held c.requires c.turn-s.result c.turn-s.ensures in
     let on : On c.loop-e.invariant.held.reading c.turn-s.result.read = stepped.goes c.if-s.false in
     let fits : Fits c.loop-e.st c.turn-s.result.read = on.fits in
     omega (arith, fits.kind)
@@ -173,7 +192,8 @@ bounds-past-i-in-loop-e-4 c =
 pub offset_bounds-past-i-in-loop-e-5 : goal.offset_bounds-past-i-in-loop-e-5
 unfolding entry_numbers state_after
 offset_bounds-past-i-in-loop-e-5 c =
-    let stepped : Step c.loop-e.invariant.held.reading c.turn-s.result = turn_step c.loop-e.invariant.held c.requires c.turn-s.result c.turn-s.ensures in
+    let stepped : Step c.loop-e.invariant.held.reading c.turn-s.result =
+    turn_step c.loop-e.invariant.held c.requires c.turn-s.result c.turn-s.ensures in
     let on : On c.loop-e.invariant.held.reading c.turn-s.result.read = stepped.goes c.if-s.false in
     let fits : Fits c.loop-e.st c.turn-s.result.read = on.fits in
     omega (arith, fits.kind)
@@ -181,7 +201,8 @@ offset_bounds-past-i-in-loop-e-5 c =
 pub bounds-past-i-in-loop-e-5 : goal.bounds-past-i-in-loop-e-5
 unfolding entry_numbers state_after
 bounds-past-i-in-loop-e-5 c =
-    let stepped : Step c.loop-e.invariant.held.reading c.turn-s.result = turn_step c.loop-e.invariant.held c.requires c.turn-s.result c.turn-s.ensures in
+    let stepped : Step c.loop-e.invariant.held.reading c.turn-s.result =
+    turn_step c.loop-e.invariant.held c.requires c.turn-s.result c.turn-s.ensures in
     let on : On c.loop-e.invariant.held.reading c.turn-s.result.read = stepped.goes c.if-s.false in
     let fits : Fits c.loop-e.st c.turn-s.result.read = on.fits in
     omega (arith, fits.kind)
@@ -189,9 +210,11 @@ bounds-past-i-in-loop-e-5 c =
 pub add_record-requires : goal.add_record-requires
 unfolding entry_numbers state_after last_in
 add_record-requires c =
-    let stepped : Step c.loop-e.invariant.held.reading c.turn-s.result = turn_step c.loop-e.invariant.held c.requires c.turn-s.result c.turn-s.ensures in
+    let stepped : Step c.loop-e.invariant.held.reading c.turn-s.result =
+    turn_step c.loop-e.invariant.held c.requires c.turn-s.result c.turn-s.ensures in
     let on : On c.loop-e.invariant.held.reading c.turn-s.result.read = stepped.goes c.if-s.false in
-    let kept : let l = c.loop-e in let r = c.turn-s.result.read in looked_found c.args.file.now l.st r (last_in l.past r.kind) ≡ keeps = keeps_all _ c.looked-f.ensures (looked_numbered _ _ _ _) c.if-f-ne0.false in
+    let kept : let l = c.loop-e in let r = c.turn-s.result.read in looked_found c.args.file.now l.st r (last_in l.past r.kind)
+    ≡ keeps = keeps_all _ c.looked-f.ensures (looked_numbered _ _ _ _) c.if-f-ne0.false in
     let goes : Goes c.loop-e.invariant.held.reading c.turn-s.result.read = on.goes kept c.if-room-st.false in
     let fits : Fits c.loop-e.st c.turn-s.result.read = on.fits in
     addable c.loop-e.invariant.held c.turn-s.result.read goes fits
@@ -199,7 +222,8 @@ add_record-requires c =
 pub state_after-st-requires : goal.state_after-st-requires
 unfolding entry_numbers state_after
 state_after-st-requires c =
-    let stepped : Step c.loop-e.invariant.held.reading c.turn-s.result = turn_step c.loop-e.invariant.held c.requires c.turn-s.result c.turn-s.ensures in
+    let stepped : Step c.loop-e.invariant.held.reading c.turn-s.result =
+    turn_step c.loop-e.invariant.held c.requires c.turn-s.result c.turn-s.ensures in
     let on : On c.loop-e.invariant.held.reading c.turn-s.result.read = stepped.goes c.if-s.false in
     let fits : Fits c.loop-e.st c.turn-s.result.read = on.fits in
     let f = fits in (f.outer, (f.safe, f.short))
@@ -207,7 +231,8 @@ state_after-st-requires c =
 pub loop-e-smaller : goal.loop-e-smaller
 unfolding entry_numbers state_after
 loop-e-smaller c =
-    let stepped : Step c.loop-e.invariant.held.reading c.turn-s.result = turn_step c.loop-e.invariant.held c.requires c.turn-s.result c.turn-s.ensures in
+    let stepped : Step c.loop-e.invariant.held.reading c.turn-s.result =
+    turn_step c.loop-e.invariant.held c.requires c.turn-s.result c.turn-s.ensures in
     let on : On c.loop-e.invariant.held.reading c.turn-s.result.read = stepped.goes c.if-s.false in
     let fits : Fits c.loop-e.st c.turn-s.result.read = on.fits in
     omega (
@@ -219,9 +244,11 @@ loop-e-smaller c =
 pub loop-e-preserved : goal.loop-e-preserved
 unfolding entry_of past_after last_in
 loop-e-preserved c =
-    let stepped : Step c.loop-e.invariant.held.reading c.turn-s.result = turn_step c.loop-e.invariant.held c.requires c.turn-s.result c.turn-s.ensures in
+    let stepped : Step c.loop-e.invariant.held.reading c.turn-s.result =
+    turn_step c.loop-e.invariant.held c.requires c.turn-s.result c.turn-s.ensures in
     let on : On c.loop-e.invariant.held.reading c.turn-s.result.read = stepped.goes c.if-s.false in
-    let kept : let l = c.loop-e in let r = c.turn-s.result.read in looked_found c.args.file.now l.st r (last_in l.past r.kind) ≡ keeps = keeps_all _ c.looked-f.ensures (looked_numbered _ _ _ _) c.if-f-ne0.false in
+    let kept : let l = c.loop-e in let r = c.turn-s.result.read in looked_found c.args.file.now l.st r (last_in l.past r.kind)
+    ≡ keeps = keeps_all _ c.looked-f.ensures (looked_numbered _ _ _ _) c.if-f-ne0.false in
     let goes : Goes c.loop-e.invariant.held.reading c.turn-s.result.read = on.goes kept c.if-room-st.false in
     let fits : Fits c.loop-e.st c.turn-s.result.read = on.fits in
     let next = held_next c.loop-e.invariant.held c.turn-s.result.read goes fits in

@@ -13,4 +13,5 @@ pub returns-in-51 : goal.returns-in-51
 returns-in-51 c = c.lawyer_condition.ensures ∙ as_of_proc _ c.in-51.is
 
 pub returns-in_default : goal.returns-in_default
-returns-in_default c = sym (no_conditions _ _ (not_in (PROC ∷ RRA ∷ []) _ c.in_default.in_default-own.rest.1) (not_in (DECPF ∷ []) _ c.in_default.in_default-own.rest.0.1))
+returns-in_default c = sym (no_conditions _ _ (not_in (PROC ∷ RRA ∷ []) _ c.in_default.in_default-own.rest.1)
+    (not_in (DECPF ∷ []) _ c.in_default.in_default-own.rest.0.1))

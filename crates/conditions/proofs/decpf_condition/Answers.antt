@@ -40,7 +40,15 @@ returns-then-cell_empty-3 c =
     let date : is_empty (field 9 (cells_at c.args.bytes.now c.args.p)) ≡ false = sym c.cell_empty.ensures ∙ c.if-cell_empty.false in
     let type : is_empty (field 10 (cells_at c.args.bytes.now c.args.p)) ≡ false = sym c.cell_empty-2.ensures ∙ c.if-cell_empty-2.false in
     let death : death_unstated (cells_at c.args.bytes.now c.args.p) ≡ false = sym c.death_unstated.ensures ∙ c.if-death_unstated.false in
-    rw (condition_field (cells_at c.args.bytes.now c.args.p), declared, date, type, death, sym c.cell_empty-3.ensures ∙ c.if-cell_empty-3.true)
+    rw (
+      condition_field (cells_at c.args.bytes.now c.args.p),
+      declared,
+      date,
+      type,
+      death,
+      sym c.cell_empty-3.ensures
+          ∙ c.if-cell_empty-3.true,
+    )
 
 pub returns : goal.returns
 unfolding field special conditioned
@@ -49,4 +57,12 @@ returns c =
     let date : is_empty (field 9 (cells_at c.args.bytes.now c.args.p)) ≡ false = sym c.cell_empty.ensures ∙ c.if-cell_empty.false in
     let type : is_empty (field 10 (cells_at c.args.bytes.now c.args.p)) ≡ false = sym c.cell_empty-2.ensures ∙ c.if-cell_empty-2.false in
     let death : death_unstated (cells_at c.args.bytes.now c.args.p) ≡ false = sym c.death_unstated.ensures ∙ c.if-death_unstated.false in
-    rw (condition_field (cells_at c.args.bytes.now c.args.p), declared, date, type, death, sym c.cell_empty-3.ensures ∙ c.if-cell_empty-3.false)
+    rw (
+      condition_field (cells_at c.args.bytes.now c.args.p),
+      declared,
+      date,
+      type,
+      death,
+      sym c.cell_empty-3.ensures
+          ∙ c.if-cell_empty-3.false,
+    )

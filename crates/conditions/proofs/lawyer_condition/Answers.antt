@@ -8,15 +8,18 @@ use Rattle.conditions.proofs.lawyer_condition.Goals as goal
 
 pub returns-then-cell_is : goal.returns-then-cell_is
 unfolding field lawyers
-returns-then-cell_is c = kind_means ((cells_at c.args.bytes.now c.args.p)) person (search listed) c.cell_is.ensures c.if-cell_is.true c.lawyers_field.ensures
+returns-then-cell_is c = kind_means ((cells_at c.args.bytes.now c.args.p)) person (search listed) c.cell_is.ensures c.if-cell_is.true
+    c.lawyers_field.ensures
 
 pub returns-then-cell_is-2 : goal.returns-then-cell_is-2
 unfolding field lawyers
-returns-then-cell_is-2 c = kind_means (((cells_at c.args.bytes.now c.args.p))) firm (search listed) c.cell_is-2.ensures c.if-cell_is-2.true c.lawyers_field-then-cell_is-2.ensures
+returns-then-cell_is-2 c = kind_means (((cells_at c.args.bytes.now c.args.p))) firm (search listed) c.cell_is-2.ensures
+    c.if-cell_is-2.true c.lawyers_field-then-cell_is-2.ensures
 
 pub returns-then-cell_is-3 : goal.returns-then-cell_is-3
 unfolding field lawyers
-returns-then-cell_is-3 c = kind_means ((((cells_at c.args.bytes.now c.args.p)))) nobody (search listed) c.cell_is-3.ensures c.if-cell_is-3.true c.lawyers_field-then-cell_is-3.ensures
+returns-then-cell_is-3 c = kind_means ((((cells_at c.args.bytes.now c.args.p)))) nobody (search listed) c.cell_is-3.ensures
+    c.if-cell_is-3.true c.lawyers_field-then-cell_is-3.ensures
 
 pub returns : goal.returns
 unfolding field lawyers

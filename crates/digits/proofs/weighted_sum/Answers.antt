@@ -17,7 +17,8 @@ overflow_add-sum c = record { fits = omega arith }
 pub loop-i-preserved : goal.loop-i-preserved
 unfolding weighted
 loop-i-preserved c =
-    let more : let a = c.args in weighted (drop c.loop-i.i a.weights.now) (drop c.loop-i.i a.s.now) ≡ c.times.result + weighted (drop (c.loop-i.i + 1) a.weights.now) (drop (c.loop-i.i + 1) a.s.now) = let a = c.args in
+    let more : let a = c.args in weighted (drop c.loop-i.i a.weights.now) (drop c.loop-i.i a.s.now)
+    ≡ c.times.result + weighted (drop (c.loop-i.i + 1) a.weights.now) (drop (c.loop-i.i + 1) a.s.now) = let a = c.args in
     rw (drop_on a.weights.now c.loop-i.i 0 (omega arith), drop_on a.s.now c.loop-i.i 0 (omega arith), c.times.ensures) in
     (omega arith, (omega arith, omega (arith, more)))
 

@@ -53,7 +53,8 @@ unfolding obligatory_field_empty not_a_valid_value is_obligatory is_empty filled
 own_name name r [] p q e f = absurd (true≢false (rw p at e))
 own_name name r (b ∷ s) p q e f = sym ((same_says name (b ∷ s)).0 (not-false _ (rw q at f)))
 
-pub fields_fit : (f : ℕ) (name : Text) (rs : List Row) (cs : List Text) → length cs ≡ length rs → ask_fields f field_order name rs cs ≡ keeps
+pub fields_fit : (f : ℕ) (name : Text) (rs : List Row) (cs : List Text) → length cs ≡ length rs → ask_fields f field_order name rs cs
+    ≡ keeps
     → Each Cell cs × (width_of cs ≤ longest rs)
 unfolding ask_fields field_order width_of sum
 fields_fit f name [] [] n e = (none, omega arith)

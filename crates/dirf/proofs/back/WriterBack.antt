@@ -55,7 +55,8 @@ module _ (e : Edition) (tests : TestsSay e) (p : Piece) where
       (λ kept. keeps_gives_none kept g.2)
       (of_each (each room before) g.0 g.1)
 
-  sound_kept : Sound-line e p → (room : ℕ) (before : List Rec) (r : Rule Here) → r ∈ order → numbers_pass (λ n. is_in n of_the_line) r ≡ true
+  sound_kept : Sound-line e p → (room : ℕ) (before : List Rec) (r : Rule Here) → r ∈ order → numbers_pass (λ n. is_in n of_the_line) r
+      ≡ true
       → ask r (here e room before p) ≡ keeps
   sound_kept right room before r m own =
       none_given_keeps (here e room before p) r
@@ -128,7 +129,8 @@ module _ (e : Edition) (sound : Sound e) (tests : TestsSay e) (k : ℕ) (cells :
   line_clean = joined_clean fit.0
 
   line_kept : (room : ℕ) (before : List Rec) → LineKept (here e room before (whole_line (joined cells)))
-  unfolding order here ask line_too_long input_ends stray_line_end no_bar_at_the_end identifier_unknown left_for_later contents_of is_in some is_empty
+  unfolding order here ask line_too_long input_ends stray_line_end no_bar_at_the_end identifier_unknown left_for_later contents_of is_in
+      some is_empty
   line_kept room before =
       let h = here e room before (whole_line (joined cells)) in
       let whole = clean_whole (joined cells) line_clean in

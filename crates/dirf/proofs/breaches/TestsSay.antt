@@ -23,7 +23,8 @@ use Rattle.dirf.specs.Conditions.{estate_stated}
 use Rattle.dirf.specs.Rules.{Rule, gives, field_by_field, conditions}
 use Rattle.dirf.specs.Tree.{Rec}
 use Rattle.dirf.specs.Keys.{key_fields, key_of}
-use Rattle.dirf.specs.Order.{Here, here, kind_of_line, contents_of, line_number, closed, bytes_follow_FIMDirf, too_many_lines, line_too_long}
+use Rattle.dirf.specs.Order.{Here, here, kind_of_line, contents_of, line_number, closed, bytes_follow_FIMDirf, too_many_lines}
+use Rattle.dirf.specs.Order.{line_too_long}
 use Rattle.dirf.specs.Order.{input_ends, stray_line_end, no_bar_at_the_end, identifier_unknown, left_for_later, may_not_stand_here}
 use Rattle.dirf.specs.Order.{wrong_number_of_fields, value_record_repeated, key_not_greater, no_room, order}
 use Rattle.dirf.specs.Theorems.Plain.{◌∈◌, Nth, NoLineEnd, SmallerKey}

@@ -72,7 +72,8 @@ module _ (e : Edition) (sound : Sound e) (room : ℕ) where
   nothing_closes before most q = record { text = []; is_whole = empty; few = omega arith; kept = tt; shut = q }
 
   -- a line that is not FIMDirf leaves the file open, and FIMDirf closes it
-  stays_open : (before : List Rec) (line : Text) → kind_of_line e line ≢ FIMDirf → closed (rec_of e before (whole_line line) ∷ before) ≡ false
+  stays_open : (before : List Rec) (line : Text) → kind_of_line e line ≢ FIMDirf → closed (rec_of e before (whole_line line) ∷ before)
+      ≡ false
   unfolding closed rec_of
   stays_open before line n = ne_eqb (kind_of_line e line) FIMDirf n
 

@@ -51,7 +51,8 @@ under_DECPJ of2025 = under_DECPJ2025
 under_DECPJ of2022 = under_DECPJ2022
 
 tested : (n : EditionName) → Tested (edition_named n) (under_DECPF n) (under_DECPJ n)
-unfolding bytes_opens kinds_opens edition_opens belongs_opens sum count rising below_test tests edition_named is_amount first_amount amount_count
+unfolding bytes_opens kinds_opens edition_opens belongs_opens sum count rising below_test tests edition_named is_amount first_amount
+    amount_count
     amount_at amount_rows
 tested of2025 = record { lists = refl; passed = refl; identified = refl }
 tested of2022 = record { lists = refl; passed = refl; identified = refl }

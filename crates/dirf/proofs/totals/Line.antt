@@ -81,7 +81,8 @@ few_counted k =
 abbrev pub valued : List Text → ℕ
 valued cs = sum (map value_of cs)
 
-worth_digits : (n : ℕ) (cs : List Text) → ((i : ℕ) → i < n → i < length cs → Money (get_or cs i [])) → worth (take n cs) ≡ valued (take n cs)
+worth_digits : (n : ℕ) (cs : List Text) → ((i : ℕ) → i < n → i < length cs → Money (get_or cs i [])) → worth (take n cs)
+    ≡ valued (take n cs)
 unfolding sum
 worth_digits zero cs m = refl
 worth_digits (suc n) [] m = refl

@@ -80,7 +80,8 @@ module _ (e : Edition) where
             let a = first_amount k in
             let past = a + amount_count k in
             let z : 1 + f - 1 ≡ f = omega arith in
-            subst (λ b. Says b ((a ≤ f) × (f < past))) (sym (at_field k 1 (rows_of e k) (named_rows e sound right s v) m ∙ ap (amount_at k) z))
+            subst (λ b. Says b ((a ≤ f) × (f < past))) (sym (at_field k 1 (rows_of e k) (named_rows e sound right s v) m
+            ∙ ap (amount_at k) z))
             (says_and (leb a f) (ltb f past) (leb_says a f) (ltb_says f past));
         own = only_its_own e;
         none = total_none;

@@ -152,7 +152,8 @@ idrec_high h k q m = ltb-true (level h) 3 (every_in (λ h. ltb (level h) 3) (sub
 pub idrec_apart : (h x k : ℕ) → k ≡ IDREC → h ∈ parents_of k → x ∈ parents_of k → x ∈ group_of h → (h ∈ declarants) × (x ∈ blocks)
 unfolding bytes_opens kinds_opens edition_opens belongs_opens
 idrec_apart h x k q m n inside =
-    let both = every_in (λ x. if is_in x (group_of h) then is_in h declarants && is_in x blocks else true) (subst (λ k. x ∈ parents_of k) q n)
+    let both = every_in (λ x. if is_in x (group_of h) then is_in h declarants && is_in x blocks else true)
+    (subst (λ k. x ∈ parents_of k) q n)
     (every_in (λ h. every (λ x. if is_in x (group_of h) then is_in h declarants && is_in x blocks else true) (parents_of IDREC))
     (subst (λ k. h ∈ parents_of k) q m) refl) in
     let here : Says (if is_in x (group_of h) then is_in h declarants && is_in x blocks else true)
@@ -171,7 +172,8 @@ idrec_no_plan h k q m p =
 pub idrec_group : (h j k : ℕ) → k ≡ IDREC → h ∈ parents_of k → j ∈ group_of h → (j ∈ blocks) ⊎ (j ∈ of_a_plan) ⊎ (j ∈ IDREC ∷ persons)
 unfolding bytes_opens kinds_opens edition_opens belongs_opens
 idrec_group h j k q m n =
-    let any : Says (is_in j blocks || (is_in j of_a_plan || is_in j (IDREC ∷ persons))) ((j ∈ blocks) ⊎ (j ∈ of_a_plan) ⊎ (j ∈ IDREC ∷ persons)) =
+    let any : Says (is_in j blocks || (is_in j of_a_plan || is_in j (IDREC ∷ persons)))
+    ((j ∈ blocks) ⊎ (j ∈ of_a_plan) ⊎ (j ∈ IDREC ∷ persons)) =
     search says depth 12 in
     any.0
     (every_in (λ j. is_in j blocks || (is_in j of_a_plan || is_in j (IDREC ∷ persons))) n

@@ -13,7 +13,8 @@ abbrev pub invariant-loop-i : goal.invariant-loop-i
 invariant-loop-i l =
     let p : Places = record { count = l.count; starts = l.starts; lens = l.lens } in
     ((l.i ≤ length l.s) × ((l.start ≤ l.i) × (l.count ≤ l.i)))
-    × (Fifteen p × ((length (clean l.s) ≡ l.i + length (clean (drop l.i l.s))) × (places_of (clean l.s) ≡ places_from (clean (drop l.i l.s)) l.start l.i p)))
+    × (Fifteen p × ((length (clean l.s) ≡ l.i + length (clean (drop l.i l.s))) × (places_of (clean l.s)
+    ≡ places_from (clean (drop l.i l.s)) l.start l.i p)))
 
 abbrev pub decreases-loop-i : goal.decreases-loop-i
 decreases-loop-i l = length l.s - l.i

@@ -30,7 +30,8 @@ returns-in_default-4 c = let singles : List (List ℕ) = (53 ∷ 61 ∷ []) ∷ 
 
 pub returns-in_default-5 : goal.returns-in_default-5
 unfolding bytes_opens kinds_opens seen
-returns-in_default-5 c = let singles : List (List ℕ) = (53 ∷ 61 ∷ []) ∷ [] in search (rules, from stands_once false singles 59 kinds refl (λ k h. sym (is_in_past kinds k h values refl)))
+returns-in_default-5 c = let singles : List (List ℕ) = (53 ∷ 61 ∷ []) ∷ []
+    in search (rules, from stands_once false singles 59 kinds refl (λ k h. sym (is_in_past kinds k h values refl)))
 
 pub returns-in-7-to-19 : goal.returns-in-7-to-19
 unfolding bytes_opens kinds_opens seen

@@ -36,13 +36,18 @@ overflow_add-n c =
 pub returns-then-n-ge1000000000000000000 : goal.returns-then-n-ge1000000000000000000
 unfolding value_of value_after
 returns-then-n-ge1000000000000000000 c =
-    let more : let s = c.args.s.now in value_of s ≡ value_after (c.loop-i.n * 10 + (c.wide.result - 48)) (drop (c.loop-i.i + 1) s) = c.loop-i.invariant.1.1 ∙ ap (value_after c.loop-i.n) (drop_on _ c.loop-i.i 0 (omega arith)) ∙ rw c.wide.ensures in
-    sym (min-eq_left (rw more (le_trans c.if-n-ge1000000000000000000.true (value_least (c.loop-i.n * 10 + (c.wide.result - 48)) (drop (c.loop-i.i + 1) c.args.s.now)))))
+    let more : let s = c.args.s.now in value_of s
+    ≡ value_after (c.loop-i.n * 10 + (c.wide.result - 48)) (drop (c.loop-i.i + 1) s) = c.loop-i.invariant.1.1
+    ∙ ap (value_after c.loop-i.n) (drop_on _ c.loop-i.i 0 (omega arith)) ∙ rw c.wide.ensures in
+    sym (min-eq_left (rw more (le_trans c.if-n-ge1000000000000000000.true (value_least (c.loop-i.n * 10 + (c.wide.result - 48))
+    (drop (c.loop-i.i + 1) c.args.s.now)))))
 
 pub loop-i-preserved : goal.loop-i-preserved
 unfolding value_of value_after
 loop-i-preserved c =
-    let more : let s = c.args.s.now in value_of s ≡ value_after (c.loop-i.n * 10 + (c.wide.result - 48)) (drop (c.loop-i.i + 1) s) = c.loop-i.invariant.1.1 ∙ ap (value_after c.loop-i.n) (drop_on _ c.loop-i.i 0 (omega arith)) ∙ rw c.wide.ensures in
+    let more : let s = c.args.s.now in value_of s
+    ≡ value_after (c.loop-i.n * 10 + (c.wide.result - 48)) (drop (c.loop-i.i + 1) s) = c.loop-i.invariant.1.1
+    ∙ ap (value_after c.loop-i.n) (drop_on _ c.loop-i.i 0 (omega arith)) ∙ rw c.wide.ensures in
     (omega arith, (omega arith, more))
 
 pub returns : goal.returns

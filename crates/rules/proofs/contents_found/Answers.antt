@@ -72,10 +72,12 @@ pub returns-then-number-ne0 : goal.returns-then-number-ne0
 unfolding or_else ask_fields finding_of cell_at
 returns-then-number-ne0 c =
     let few : c.field_count-n.result ≤ most_fields = rw c.field_count-n.ensures (count_bound (c.args.rows.now) c.args.k) in
-    let found_here : FieldFound (c.args.rows.now) c.args.k (c.args.name.now) (cells_at c.args.bytes.now c.args.p) c.loop-i.i c.field_rule-number.result = let a = c.args in
+    let found_here : FieldFound (c.args.rows.now) c.args.k (c.args.name.now)
+    (cells_at c.args.bytes.now c.args.p) c.loop-i.i c.field_rule-number.result = let a = c.args in
     let h : c.loop-i.i < min most_fields a.p.count = omega (arith, few) in
     let p = c.part-part.ensures.0 ∙ sym (cell_at_lem a.bytes.now a.p c.loop-i.i [] h) in
-    field_found (c.args.rows.now) a.k (c.args.name.now) (cells_at c.args.bytes.now c.args.p) c.loop-i.i (omega (arith, c.field_count-n.ensures))
+    field_found (c.args.rows.now) a.k (c.args.name.now)
+    (cells_at c.args.bytes.now c.args.p) c.loop-i.i (omega (arith, c.field_count-n.ensures))
     (omega (arith, cells_length a.bytes.now a.p)) (c.field_rule-number.ensures ∙ rw (c.row_at.ensures, p)) in
     rw (in_parts, c.loop-i.invariant.1 ∙ found_here.0 c.if-number-ne0.true)
 
@@ -83,10 +85,12 @@ pub loop-i-preserved : goal.loop-i-preserved
 unfolding or_else ask_fields finding_of cell_at
 loop-i-preserved c =
     let few : c.field_count-n.result ≤ most_fields = rw c.field_count-n.ensures (count_bound (c.args.rows.now) c.args.k) in
-    let found_here : FieldFound (c.args.rows.now) c.args.k (c.args.name.now) (cells_at c.args.bytes.now c.args.p) c.loop-i.i c.field_rule-number.result = let a = c.args in
+    let found_here : FieldFound (c.args.rows.now) c.args.k (c.args.name.now)
+    (cells_at c.args.bytes.now c.args.p) c.loop-i.i c.field_rule-number.result = let a = c.args in
     let h : c.loop-i.i < min most_fields a.p.count = omega (arith, few) in
     let p = c.part-part.ensures.0 ∙ sym (cell_at_lem a.bytes.now a.p c.loop-i.i [] h) in
-    field_found (c.args.rows.now) a.k (c.args.name.now) (cells_at c.args.bytes.now c.args.p) c.loop-i.i (omega (arith, c.field_count-n.ensures))
+    field_found (c.args.rows.now) a.k (c.args.name.now)
+    (cells_at c.args.bytes.now c.args.p) c.loop-i.i (omega (arith, c.field_count-n.ensures))
     (omega (arith, cells_length a.bytes.now a.p)) (c.field_rule-number.ensures ∙ rw (c.row_at.ensures, p)) in
     (omega arith, c.loop-i.invariant.1 ∙ found_here.1 c.if-number-ne0.false)
 
@@ -97,7 +101,8 @@ returns c =
     let i = c.loop-i.i in
     let e : fields_from a.rows.now a.k a.name.now (cells_at a.bytes.now a.p) i ≡ keeps =
     elim c.loop-i-test.branch [
-      | else-loop-i-test w ↦ past_rows a.rows.now a.k a.name.now (cells_at a.bytes.now a.p) i c.field_count-n.result (c.field_count-n.ensures ∙ sym (rows_length a.rows.now a.k)) w.loop-i-test.false
+      | else-loop-i-test w ↦ past_rows a.rows.now a.k a.name.now (cells_at a.bytes.now a.p) i c.field_count-n.result
+          (c.field_count-n.ensures ∙ sym (rows_length a.rows.now a.k)) w.loop-i-test.false
       | then-loop-i-test+then-p-i w ↦ past_cells a.rows.now a.k a.name.now a.bytes.now a.p i w.if-p-i.true
     ] in
     rw (in_parts, c.loop-i.invariant.1 ∙ e) c.conditions_found.ensures

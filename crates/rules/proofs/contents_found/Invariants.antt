@@ -5,7 +5,8 @@ use Rattle.rules.proofs.Findings.{fields_from}
 use Rattle.rules.proofs.contents_found.Given as goal
 
 abbrev pub invariant-loop-i : goal.invariant-loop-i
-invariant-loop-i l = (l.i ≤ l.n) × (fields_from l.rows l.k l.name (cells_at l.bytes l.p) 0 ≡ fields_from l.rows l.k l.name (cells_at l.bytes l.p) l.i)
+invariant-loop-i l = (l.i ≤ l.n) × (fields_from l.rows l.k l.name (cells_at l.bytes l.p) 0
+    ≡ fields_from l.rows l.k l.name (cells_at l.bytes l.p) l.i)
 
 abbrev pub decreases-loop-i : goal.decreases-loop-i
 decreases-loop-i l = l.n - l.i

@@ -12,14 +12,24 @@ use Rattle.rules.proofs.filled_rule.Goals as goal
 pub returns-then-not-right_size : goal.returns-then-not-right_size
 unfolding row_of row_said ruled
 returns-then-not-right_size c =
-    let number : let a = c.args in let r = row_said a.row in let s = a.s.now in number_of (ask_field 0 field_order a.name.now r s) ≡ ruled true (right_size r s) (zero_first r s) (no_date r s) (valid a.name.now r.holds s) (digits_held r.holds s) = filled_number c.args.name.now (row_said c.args.row) c.args.s.now (λ e. omega (arith, c.requires.filled))
+    let number : let a = c.args in let r = row_said a.row in let s = a.s.now in number_of (ask_field 0 field_order a.name.now r s)
+    ≡ ruled true (right_size r s) (zero_first r s) (no_date r s) (valid a.name.now r.holds s)
+    (digits_held r.holds s) = filled_number c.args.name.now (row_said c.args.row) c.args.s.now (λ e. omega (
+      arith,
+      c.requires.filled,
+    ))
     ∙ rw c.requires.bytes in
     rw (number, sym c.right_size.ensures ∙ c.if-not-right_size.true)
 
 pub returns-then-zero_in_front : goal.returns-then-zero_in_front
 unfolding row_of row_said ruled
 returns-then-zero_in_front c =
-    let number : let a = c.args in let r = row_said a.row in let s = a.s.now in number_of (ask_field 0 field_order a.name.now r s) ≡ ruled true (right_size r s) (zero_first r s) (no_date r s) (valid a.name.now r.holds s) (digits_held r.holds s) = filled_number c.args.name.now (row_said c.args.row) c.args.s.now (λ e. omega (arith, c.requires.filled))
+    let number : let a = c.args in let r = row_said a.row in let s = a.s.now in number_of (ask_field 0 field_order a.name.now r s)
+    ≡ ruled true (right_size r s) (zero_first r s) (no_date r s) (valid a.name.now r.holds s)
+    (digits_held r.holds s) = filled_number c.args.name.now (row_said c.args.row) c.args.s.now (λ e. omega (
+      arith,
+      c.requires.filled,
+    ))
     ∙ rw c.requires.bytes in
     let size : right_size (row_said c.args.row) c.args.s.now ≡ true = sym c.right_size.ensures ∙ c.if-not-right_size.false in
     rw (number, size, sym c.zero_in_front.ensures ∙ c.if-zero_in_front.true)
@@ -31,7 +41,12 @@ no_such_date-requires c = c.requires.bytes
 pub returns-then-no_such_date : goal.returns-then-no_such_date
 unfolding row_of row_said ruled
 returns-then-no_such_date c =
-    let number : let a = c.args in let r = row_said a.row in let s = a.s.now in number_of (ask_field 0 field_order a.name.now r s) ≡ ruled true (right_size r s) (zero_first r s) (no_date r s) (valid a.name.now r.holds s) (digits_held r.holds s) = filled_number c.args.name.now (row_said c.args.row) c.args.s.now (λ e. omega (arith, c.requires.filled))
+    let number : let a = c.args in let r = row_said a.row in let s = a.s.now in number_of (ask_field 0 field_order a.name.now r s)
+    ≡ ruled true (right_size r s) (zero_first r s) (no_date r s) (valid a.name.now r.holds s)
+    (digits_held r.holds s) = filled_number c.args.name.now (row_said c.args.row) c.args.s.now (λ e. omega (
+      arith,
+      c.requires.filled,
+    ))
     ∙ rw c.requires.bytes in
     let size : right_size (row_said c.args.row) c.args.s.now ≡ true = sym c.right_size.ensures ∙ c.if-not-right_size.false in
     let zero : zero_first (row_said c.args.row) c.args.s.now ≡ false = sym c.zero_in_front.ensures ∙ c.if-zero_in_front.false in
@@ -40,7 +55,12 @@ returns-then-no_such_date c =
 pub returns-then-not-is_valid : goal.returns-then-not-is_valid
 unfolding row_of row_said ruled
 returns-then-not-is_valid c =
-    let number : let a = c.args in let r = row_said a.row in let s = a.s.now in number_of (ask_field 0 field_order a.name.now r s) ≡ ruled true (right_size r s) (zero_first r s) (no_date r s) (valid a.name.now r.holds s) (digits_held r.holds s) = filled_number c.args.name.now (row_said c.args.row) c.args.s.now (λ e. omega (arith, c.requires.filled))
+    let number : let a = c.args in let r = row_said a.row in let s = a.s.now in number_of (ask_field 0 field_order a.name.now r s)
+    ≡ ruled true (right_size r s) (zero_first r s) (no_date r s) (valid a.name.now r.holds s)
+    (digits_held r.holds s) = filled_number c.args.name.now (row_said c.args.row) c.args.s.now (λ e. omega (
+      arith,
+      c.requires.filled,
+    ))
     ∙ rw c.requires.bytes in
     let size : right_size (row_said c.args.row) c.args.s.now ≡ true = sym c.right_size.ensures ∙ c.if-not-right_size.false in
     let zero : zero_first (row_said c.args.row) c.args.s.now ≡ false = sym c.zero_in_front.ensures ∙ c.if-zero_in_front.false in
@@ -50,7 +70,12 @@ returns-then-not-is_valid c =
 pub returns-then-not-digits_held : goal.returns-then-not-digits_held
 unfolding row_of row_said ruled
 returns-then-not-digits_held c =
-    let number : let a = c.args in let r = row_said a.row in let s = a.s.now in number_of (ask_field 0 field_order a.name.now r s) ≡ ruled true (right_size r s) (zero_first r s) (no_date r s) (valid a.name.now r.holds s) (digits_held r.holds s) = filled_number c.args.name.now (row_said c.args.row) c.args.s.now (λ e. omega (arith, c.requires.filled))
+    let number : let a = c.args in let r = row_said a.row in let s = a.s.now in number_of (ask_field 0 field_order a.name.now r s)
+    ≡ ruled true (right_size r s) (zero_first r s) (no_date r s) (valid a.name.now r.holds s)
+    (digits_held r.holds s) = filled_number c.args.name.now (row_said c.args.row) c.args.s.now (λ e. omega (
+      arith,
+      c.requires.filled,
+    ))
     ∙ rw c.requires.bytes in
     let size : right_size (row_said c.args.row) c.args.s.now ≡ true = sym c.right_size.ensures ∙ c.if-not-right_size.false in
     let zero : zero_first (row_said c.args.row) c.args.s.now ≡ false = sym c.zero_in_front.ensures ∙ c.if-zero_in_front.false in
@@ -61,7 +86,12 @@ returns-then-not-digits_held c =
 pub returns : goal.returns
 unfolding row_of row_said ruled
 returns c =
-    let number : let a = c.args in let r = row_said a.row in let s = a.s.now in number_of (ask_field 0 field_order a.name.now r s) ≡ ruled true (right_size r s) (zero_first r s) (no_date r s) (valid a.name.now r.holds s) (digits_held r.holds s) = filled_number c.args.name.now (row_said c.args.row) c.args.s.now (λ e. omega (arith, c.requires.filled))
+    let number : let a = c.args in let r = row_said a.row in let s = a.s.now in number_of (ask_field 0 field_order a.name.now r s)
+    ≡ ruled true (right_size r s) (zero_first r s) (no_date r s) (valid a.name.now r.holds s)
+    (digits_held r.holds s) = filled_number c.args.name.now (row_said c.args.row) c.args.s.now (λ e. omega (
+      arith,
+      c.requires.filled,
+    ))
     ∙ rw c.requires.bytes in
     let size : right_size (row_said c.args.row) c.args.s.now ≡ true = sym c.right_size.ensures ∙ c.if-not-right_size.false in
     let zero : zero_first (row_said c.args.row) c.args.s.now ≡ false = sym c.zero_in_front.ensures ∙ c.if-zero_in_front.false in

@@ -41,4 +41,5 @@ returns-in-107 c = rw c.in-107.is c.is_relation.ensures
 
 pub returns-in_default : goal.returns-in_default
 unfolding lookup some valid holds_of
-returns-in_default c = c.is_letter.ensures ∙ letter_valid c.args.name.now c.args.s.now c.args.holds (search rules) c.in_default.in_default-own.rest
+returns-in_default c = c.is_letter.ensures
+    ∙ letter_valid c.args.name.now c.args.s.now c.args.holds (search rules) c.in_default.in_default-own.rest

@@ -14,7 +14,11 @@ read_number-n-requires c = (refl, refl, omega arith)
 
 pub returns-then-n-eq0 : goal.returns-then-n-eq0
 unfolding bytes_opens format_of fill_of need_of holds_of row_of row_said read_number read_months
-returns-then-n-eq0 c = record { says = value_said _ c.read_number-n.ensures c.if-n-eq0.true; numbered = λ e. let z : ◌≡◌ {A = ℕ} 0 1 = cc in omega arith }
+returns-then-n-eq0 c = record {
+  says = value_said _ c.read_number-n.ensures c.if-n-eq0.true;
+  numbered = λ e. let z : ◌≡◌ {A = ℕ} 0 1 =
+      cc in omega arith;
+}
 
 pub returns : goal.returns
 unfolding bytes_opens format_of fill_of need_of holds_of row_of row_said read_number read_months

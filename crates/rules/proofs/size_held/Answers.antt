@@ -16,11 +16,17 @@ use Rattle.rules.proofs.size_held.Goals as goal
 
 pub returns-in-8-to-9 : goal.returns-in-8-to-9
 unfolding bytes_opens size_held holds_of seen
-returns-in-8-to-9 c = rw c.in-116.is (between (size_held telephone) true [] 8 10 refl (c.in-8-to-9.if-n-lt8-own.false, (c.in-8-to-9.if-n-lt10-own.true, tt)))
+returns-in-8-to-9 c = rw c.in-116.is (between (size_held telephone) true [] 8 10 refl (
+  c.in-8-to-9.if-n-lt8-own.false,
+  (c.in-8-to-9.if-n-lt10-own.true, tt),
+))
 
 pub returns-in_default-n : goal.returns-in_default-n
 unfolding bytes_opens size_held holds_of seen
-returns-in_default-n c = rw c.in-116.is (between (size_held telephone) false [] 0 8 refl (omega arith, (c.in_default-n.if-n-lt8-own.true, tt)))
+returns-in_default-n c = rw c.in-116.is (between (size_held telephone) false [] 0 8 refl (
+  omega arith,
+  (c.in_default-n.if-n-lt8-own.true, tt),
+))
 
 pub returns-in_default-n-3 : goal.returns-in_default-n-3
 unfolding bytes_opens size_held holds_of seen

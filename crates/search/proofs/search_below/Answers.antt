@@ -35,7 +35,8 @@ overflow_add-count c = omega (arith, c.loop-at.invariant.0)
 
 pub returns-then-is_company : goal.returns-then-is_company
 returns-then-is_company c =
-    let yes : (is_beneficiary (kind_in c.args.table.now (c.loop-at.at + 1)) && is_within c.args.file.now c.args.table.now (c.loop-at.at + 1)) ≡ true =
+    let yes : (is_beneficiary (kind_in c.args.table.now (c.loop-at.at + 1)) && is_within c.args.file.now c.args.table.now (c.loop-at.at
+    + 1)) ≡ true =
     sym c.is_reached.ensures ∙ c.if-not-is_reached.false in
     let l = c.loop-at in
     c.stops_at.ensures
@@ -49,7 +50,8 @@ returns-then-is_company c =
 
 pub returns-then-not-less : goal.returns-then-not-less
 returns-then-not-less c =
-    let yes : (is_beneficiary (kind_in c.args.table.now (c.loop-at.at + 1)) && is_within c.args.file.now c.args.table.now (c.loop-at.at + 1)) ≡ true =
+    let yes : (is_beneficiary (kind_in c.args.table.now (c.loop-at.at + 1)) && is_within c.args.file.now c.args.table.now (c.loop-at.at
+    + 1)) ≡ true =
     sym c.is_reached.ensures ∙ c.if-not-is_reached.false in
     let l = c.loop-at in
     let a = c.args in
@@ -66,7 +68,8 @@ returns-then-not-less c =
 
 pub loop-at-smaller : goal.loop-at-smaller
 loop-at-smaller c =
-    let yes : (is_beneficiary (kind_in c.args.table.now (c.loop-at.at + 1)) && is_within c.args.file.now c.args.table.now (c.loop-at.at + 1)) ≡ true =
+    let yes : (is_beneficiary (kind_in c.args.table.now (c.loop-at.at + 1)) && is_within c.args.file.now c.args.table.now (c.loop-at.at
+    + 1)) ≡ true =
     sym c.is_reached.ensures ∙ c.if-not-is_reached.false in
     let further : c.loop-at.at < c.entry_at-e.result.last =
     omega (arith, last_is _ _ _ c.entry_at-e.ensures, forward _ _ c.args.key.now _ _ c.loop-at.count c.loop-at-test.true yes) in
@@ -74,7 +77,8 @@ loop-at-smaller c =
 
 pub loop-at-preserved : goal.loop-at-preserved
 loop-at-preserved c =
-    let yes : (is_beneficiary (kind_in c.args.table.now (c.loop-at.at + 1)) && is_within c.args.file.now c.args.table.now (c.loop-at.at + 1)) ≡ true =
+    let yes : (is_beneficiary (kind_in c.args.table.now (c.loop-at.at + 1)) && is_within c.args.file.now c.args.table.now (c.loop-at.at
+    + 1)) ≡ true =
     sym c.is_reached.ensures ∙ c.if-not-is_reached.false in
     let further : c.loop-at.at < c.entry_at-e.result.last =
     omega (arith, last_is _ _ _ c.entry_at-e.ensures, forward _ _ c.args.key.now _ _ c.loop-at.count c.loop-at-test.true yes) in

@@ -22,13 +22,15 @@ returns-then-lengths-field_count c =
 pub returns-then-not-add_up : goal.returns-then-not-add_up
 unfolding misfit_of
 returns-then-not-add_up c =
-    let left : let a = c.args in misfit_of a.names.now a.rows.now a.kind a.contents.now a.lengths.now ≡ (if not (eqb (sum a.lengths.now) (length a.contents.now)) then 23 else 0) = let b = c.is_base in
+    let left : let a = c.args in misfit_of a.names.now a.rows.now a.kind a.contents.now a.lengths.now
+    ≡ (if not (eqb (sum a.lengths.now) (length a.contents.now)) then 23 else 0) = let b = c.is_base in
     rw (← b.ensures, c.if-not-is_base.false, ← c.field_count.ensures, eq-eqb _ _ c.if-lengths-field_count.false) in
     let t = c.add_up in rw (left, ← t.ensures, c.if-not-add_up.true)
 
 pub returns : goal.returns
 unfolding misfit_of
 returns c =
-    let left : let a = c.args in misfit_of a.names.now a.rows.now a.kind a.contents.now a.lengths.now ≡ (if not (eqb (sum a.lengths.now) (length a.contents.now)) then 23 else 0) = let b = c.is_base in
+    let left : let a = c.args in misfit_of a.names.now a.rows.now a.kind a.contents.now a.lengths.now
+    ≡ (if not (eqb (sum a.lengths.now) (length a.contents.now)) then 23 else 0) = let b = c.is_base in
     rw (← b.ensures, c.if-not-is_base.false, ← c.field_count.ensures, eq-eqb _ _ c.if-lengths-field_count.false) in
     let t = c.add_up in rw (left, ← t.ensures, c.if-not-add_up.false)

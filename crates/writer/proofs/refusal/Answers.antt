@@ -22,7 +22,8 @@ pub returns-then-too_small : goal.returns-then-too_small
 unfolding refusal_of given or_else finding_of contents_along
 returns-then-too_small c =
     let kept : (let a = c.args in
-    contents_along a.names.now a.rows.now a.kind a.contents.now a.lengths.now) ≡ keeps = finding_keeps _ _ _ _ (sym (ap (λ f. f.number) c.contents_refused-f.ensures) ∙ c.if-f-ne0.false) in
+    contents_along a.names.now a.rows.now a.kind a.contents.now a.lengths.now)
+    ≡ keeps = finding_keeps _ _ _ _ (sym (ap (λ f. f.number) c.contents_refused-f.ensures) ∙ c.if-f-ne0.false) in
     let m = c.misfit-n.ensures in
     rw (← m, eq-eqb _ 0 c.if-n-ne0.false, kept, ← c.too_small.ensures, c.if-too_small.true)
 
@@ -30,7 +31,8 @@ pub returns : goal.returns
 unfolding refusal_of given or_else finding_of contents_along
 returns c =
     let kept : (let a = c.args in
-    contents_along a.names.now a.rows.now a.kind a.contents.now a.lengths.now) ≡ keeps = finding_keeps _ _ _ _ (sym (ap (λ f. f.number) c.contents_refused-f.ensures) ∙ c.if-f-ne0.false) in
+    contents_along a.names.now a.rows.now a.kind a.contents.now a.lengths.now)
+    ≡ keeps = finding_keeps _ _ _ _ (sym (ap (λ f. f.number) c.contents_refused-f.ensures) ∙ c.if-f-ne0.false) in
     let m = c.misfit-n.ensures in
     rw (← m, eq-eqb _ 0 c.if-n-ne0.false, kept, ← c.too_small.ensures, c.if-too_small.false)
     (c.contents_refused-f.ensures ∙ ap finding_of kept)

@@ -19,7 +19,9 @@ use Rattle.writer.proofs.write_line.Goals as goal
 pub returns-then-r-ne0 : goal.returns-then-r-ne0
 unfolding writes output_after line_written
 returns-then-r-ne0 c =
-    let asked : let a = c.args in c.refusal-r.result ≡ finding_of (first writer_order (writing (edition_said a.e) a.kind a.contents.now a.lengths.now (length a.out.now))) = let small : length c.args.contents.now ≤ 18446744073709551615 = omega (arith, c.well_formed) in
+    let asked : let a = c.args in c.refusal-r.result
+    ≡ finding_of (first writer_order (writing (edition_said a.e) a.kind a.contents.now a.lengths.now (length a.out.now))) = let
+    small : length c.args.contents.now ≤ 18446744073709551615 = omega (arith, c.well_formed) in
     let say : Say (edition_said c.args.e) c.name_table-names.result c.row_table-rows.result =
     rw (c.name_table-names.ensures, c.row_table-rows.ensures) (says _ (laid_out_lem (edition_says c.args.e))) in
     c.refusal-r.ensures ∙ ap finding_of (by_tables say c.args.kind c.args.contents.now c.args.lengths.now _ small) in
@@ -29,7 +31,9 @@ returns-then-r-ne0 c =
 pub put_line-count-requires : goal.put_line-count-requires
 unfolding writes output_after line_written
 put_line-count-requires c =
-    let asked : let a = c.args in c.refusal-r.result ≡ finding_of (first writer_order (writing (edition_said a.e) a.kind a.contents.now a.lengths.now (length a.out.now))) = let small : length c.args.contents.now ≤ 18446744073709551615 = omega (arith, c.well_formed) in
+    let asked : let a = c.args in c.refusal-r.result
+    ≡ finding_of (first writer_order (writing (edition_said a.e) a.kind a.contents.now a.lengths.now (length a.out.now))) = let
+    small : length c.args.contents.now ≤ 18446744073709551615 = omega (arith, c.well_formed) in
     let say : Say (edition_said c.args.e) c.name_table-names.result c.row_table-rows.result =
     rw (c.name_table-names.ensures, c.row_table-rows.ensures) (says _ (laid_out_lem (edition_says c.args.e))) in
     c.refusal-r.ensures ∙ ap finding_of (by_tables say c.args.kind c.args.contents.now c.args.lengths.now _ small) in
@@ -40,7 +44,9 @@ put_line-count-requires c =
 pub returns : goal.returns
 unfolding writes output_after line_written
 returns c =
-    let asked : let a = c.args in c.refusal-r.result ≡ finding_of (first writer_order (writing (edition_said a.e) a.kind a.contents.now a.lengths.now (length a.out.now))) = let small : length c.args.contents.now ≤ 18446744073709551615 = omega (arith, c.well_formed) in
+    let asked : let a = c.args in c.refusal-r.result
+    ≡ finding_of (first writer_order (writing (edition_said a.e) a.kind a.contents.now a.lengths.now (length a.out.now))) = let
+    small : length c.args.contents.now ≤ 18446744073709551615 = omega (arith, c.well_formed) in
     let say : Say (edition_said c.args.e) c.name_table-names.result c.row_table-rows.result =
     rw (c.name_table-names.ensures, c.row_table-rows.ensures) (says _ (laid_out_lem (edition_says c.args.e))) in
     c.refusal-r.ensures ∙ ap finding_of (by_tables say c.args.kind c.args.contents.now c.args.lengths.now _ small) in

@@ -35,7 +35,8 @@ returns-in-63 c = simp (lt-ltb _ _ c.if-d-path.true) (none _ c.in-63.is)
 
 pub returns-in_default : goal.returns-in_default
 unfolding order_at
-returns-in_default c = simp (lt-ltb _ _ c.if-d-path.true) (other _ _ c.in_default.in_default-own.rest.0.1 c.in_default.in_default-own.rest.1)
+returns-in_default c = simp (lt-ltb _ _ c.if-d-path.true)
+    (other _ _ c.in_default.in_default-own.rest.0.1 c.in_default.in_default-own.rest.1)
 
 pub returns : goal.returns
 unfolding order_at

@@ -20,7 +20,8 @@ unfolding line_sum sum_of sum
 returns-then-n-eq0 c =
     let t = c.args.totals.now in
     let none : line_sum c.args.r.kind (part_of c.args.file.now c.args.at c.args.r.len) ≡ 0 =
-    ap (λ n. sum_of n (from_amounts c.args.r.kind (part_of c.args.file.now c.args.at c.args.r.len))) (sym c.amount_count-n.ensures ∙ c.if-n-eq0.true) in
+    ap (λ n. sum_of n (from_amounts c.args.r.kind (part_of c.args.file.now c.args.at c.args.r.len))) (sym c.amount_count-n.ensures
+    ∙ c.if-n-eq0.true) in
     sym (ap (add_at t c.args.r.kind) none ∙ add_none t c.args.r.kind)
 
 pub sum_of-requires : goal.sum_of-requires
@@ -47,7 +48,8 @@ add-requires c =
     let starts : place.result.start ≡ field_start (first_amount c.args.r.kind) part.result.now =
     ap (λ (p : Place). p.start) place.ensures ∙ ap (λ f. field_start f part.result.now) first.ensures in
     c.tail.ensures ∙ ap (λ x. drop x part.result.now) starts ∙ ap (from_amounts c.args.r.kind) part.ensures.0 in
-    let summed : c.sum_of.result.0 ≡ line_sum c.args.r.kind (part_of c.args.file.now c.args.at c.args.r.len) = c.sum_of.ensures ∙ ap₂ sum_of many cut in
+    let summed : c.sum_of.result.0 ≡ line_sum c.args.r.kind (part_of c.args.file.now c.args.at c.args.r.len) =
+    c.sum_of.ensures ∙ ap₂ sum_of many cut in
     rw summed c.requires.fits
 
 pub returns : goal.returns
@@ -60,5 +62,6 @@ returns c =
     let starts : place.result.start ≡ field_start (first_amount c.args.r.kind) part.result.now =
     ap (λ (p : Place). p.start) place.ensures ∙ ap (λ f. field_start f part.result.now) first.ensures in
     c.tail.ensures ∙ ap (λ x. drop x part.result.now) starts ∙ ap (from_amounts c.args.r.kind) part.ensures.0 in
-    let summed : c.sum_of.result.0 ≡ line_sum c.args.r.kind (part_of c.args.file.now c.args.at c.args.r.len) = c.sum_of.ensures ∙ ap₂ sum_of many cut in
+    let summed : c.sum_of.result.0 ≡ line_sum c.args.r.kind (part_of c.args.file.now c.args.at c.args.r.len) =
+    c.sum_of.ensures ∙ ap₂ sum_of many cut in
     c.add.ensures ∙ ap (add_at _ _) summed

@@ -16,7 +16,13 @@ returns-then-done-2 c = simp (c.refuse-then-done-2.ensures, c.if-done-2.true, lt
 
 pub returns-then-n-ge-LINES : goal.returns-then-n-ge-LINES
 unfolding turn_of
-returns-then-n-ge-LINES c = simp (c.refuse-then-n-ge-LINES.ensures, le-leb _ _ c.if-n-ge-LINES.true, c.if-done-2.false, lt-leb _ _ c.if-file-at.false)
+returns-then-n-ge-LINES c = simp (
+  c.refuse-then-n-ge-LINES.ensures,
+  le-leb _ _ c.if-n-ge-LINES.true,
+  c.if-done-2.false,
+  lt-leb _ _
+      c.if-file-at.false,
+)
 
 pub returns : goal.returns
 unfolding turn_of
