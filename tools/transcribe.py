@@ -292,7 +292,7 @@ def spec_text(directory):
 
 def definitions(text):
     """Name -> function, of what begins small: a kind stands for itself."""
-    known = {'bytes': str, 'oneOf': list, 'row': lambda *row: row,
+    known = {'bytes': str, 'one_of': list, 'row': lambda *row: row,
              'replicate': lambda times, row: [row] * int(times)}
     for name, parameters, part in re.findall(r'^([a-z]\w*)((?: \w+)*) =\s(.*?)(?:\n\n|\Z)', text, re.M | re.S):
         known[name] = defined(name, parameters.split(), part, known)
@@ -302,15 +302,19 @@ def spec_values(holds, identifier):
     if isinstance(holds, list):
         return ','.join(holds)
     words = dict.fromkeys('plain amount months ddd telephone cpf cnpj'.split(), '-')
-    words.update(identifier=identifier, sOrN='S,N', cpfOrCnpj='11|14')
+    words.update(identifier=identifier, s_or_n='S,N', cpf_or_cnpj='11|14')
     return words.get(holds, holds)  # an unknown word shows up as a difference
+
+# What a row holds, where tools/layout.txt has another word for it than the specs; its readers know these.
+STORED_WORDS = {'one_of': 'oneOf', 's_or_n': 'sOrN', 'cpf_or_cnpj': 'cpfOrCnpj'}
 
 def spec_rows(layout, names, stored):
     """The rows' lines; tools/layout.txt has what a row holds before its values."""
     for group, rows in layout:
         for name in group:
             for field, (*row, holds) in enumerate(rows, 1):
-                word = ['oneOf' if isinstance(holds, list) else holds] if stored else []
+                word = 'one_of' if isinstance(holds, list) else holds
+                word = [STORED_WORDS.get(word, word)] if stored else []
                 yield ' '.join(['row', name, str(field), *row, *word, spec_values(holds, names.get(name, name))])
 
 def spec_lines(text, year, stored=False):
@@ -318,7 +322,7 @@ def spec_lines(text, year, stored=False):
     known = definitions(text)
     numbers = dict(re.findall(rf'^abbrev pub ({NAME}) : ℕ\n\1 = (\d+)$', text, re.M))
     tables = re.search(rf'^edition{year} = record {{ names = (\w+); layout = (\w+); '
-                       r'below = byDeclarant (\w+) (\w+) }$', text, re.M) or stop(f'no edition{year} in specs')
+                       r'below = by_declarant (\w+) (\w+) }$', text, re.M) or stop(f'no edition{year} in specs')
     names, layout, *below = [known[table]() for table in tables.groups()]
     lines = [f'kind {numbers.get(name)} {name} {identifier}' for name, identifier in names]
     lines += [f'later {name}' for name in known['later']()]

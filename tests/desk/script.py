@@ -8,11 +8,14 @@ import shutil
 import subprocess
 import tempfile
 
-# `rt check desk` waits until it is let go, where a case wants that, and writes the program, or says why not
+# `rt run` in crates/desk waits until it is let go, where a case wants that, and writes the program and runs it, or says why not; no other
+# command is known
 KIT = """#!/usr/bin/env bash
-while [ -e hold ]; do sleep 0.05; done
-[ ! -e broken ] || { echo "it does not hold"; exit 1; }
-mkdir -p target/bin && cp program target/bin/desk
+root=${0%/kit/rt}
+[ "$PWD $*" = "$root/crates/desk run" ] || { echo "rt: $* in $PWD"; exit 1; }
+while [ -e "$root/hold" ]; do sleep 0.05; done
+[ ! -e "$root/broken" ] || { echo "it does not hold"; exit 1; }
+mkdir -p out && cp "$root/program" out/desk
 """
 SOON, LATE = 10, 60
 
@@ -31,6 +34,7 @@ class Folder:
         self.path = tempfile.mkdtemp()
         shutil.copy(desk, self.at("desk"))
         put(self.at("tools/x86"), '#!/usr/bin/env bash\nexec "$@"\n')
+        shutil.copy(os.path.join(os.path.dirname(desk), "tools/build"), self.at("tools/build"))
         put(self.at("kit/rt"), KIT)
         put(self.at("program"), "#!/usr/bin/env bash\n" + program + "\n")
         put(self.at("crates/desk/src/main.rt"), "")
