@@ -1,6 +1,6 @@
 /* decklesail.h: the Dirf check, by the editions of 2025 and 2022, the field reader's place and the amount reader, for C.
  *
- * Build: `rt staticlib suite` writes target/staticlib/libsuite.a. The archive is for x86-64 and needs memcpy and memset
+ * Build: `tools/build suite` writes target/staticlib/libsuite.a. The archive is for x86-64 and needs memcpy and memset
  * (any C library has them). It needs nothing else, keeps no state between calls, allocates nothing and starts no thread, so
  * calls may run at the same time.
  *
@@ -9,8 +9,8 @@
  *   - bytes that nobody writes while the call runs.
  * Nothing else is asked: every content and every length is answered, and no call writes to the bytes. Each function is proved
  * to give, for all bytes and numbers, what the scope document's definitions give (crates/suite/src/lib.rt has each contract).
- * What a C caller passes is checked by nothing. A check takes at most 15 kilobytes of stack (14,704 bytes were
- * measured, and 15,344 by decklesail_total, which has the totals of all kinds there; docs/BENCH.md).
+ * What a C caller passes is checked by nothing. As an older kit built it, a check takes at most 15 kilobytes of stack (14,704 bytes
+ * were measured, and 15,344 by decklesail_total, which has the totals of all kinds there; docs/BENCH.md).
  *
  * Each call answers one number of the answer, decklesail_totals the number and all totals. For several numbers of one answer make several
  * calls with the same arguments.
