@@ -62,7 +62,7 @@ module _ (f g : ℕ → ℕ) where
       (ap₂ (λ l ns. entry_numbers x l ++ ns) (sym (others n (λ q. omega arith)))
       (set_numbers (suc n) es i v (omega arith) (ap g z ∙ this) (λ j d. others j (λ q. d (q ∙ sym z)))))
 
-with_length : (t ns : List ℕ) → length ns ≤ length t → length (with_numbers ns t) ≡ length t
+pub with_length : (t ns : List ℕ) → length ns ≤ length t → length (with_numbers ns t) ≡ length t
 unfolding with_numbers
 with_length t ns fits = length_front t ns (length ns) (sym (length-take-le (length ns) t fits))
 
@@ -160,6 +160,11 @@ module _ (t : List ℕ) where
       either j true false = refl
       either j false true = refl
       either j false false = refl
+
+pub judged_length : {e : Edition} {file : Text} {room : ℕ} {before after : List ℕ} {r : Answer} → Judged e file room before after r
+    → length after ≡ length before
+unfolding table_within numbers_in
+judged_length {before = t} j = ap length j.entries ∙ held_length t _ _
 
 -- where all of them fit, those are all
 pub all_within : (v : Verdict) (t : List ℕ) → length v.table ≤ length t / numbers_an_entry → table_within v t ≡ table_after v t

@@ -34,6 +34,7 @@ fn weighted_sum(weights: &[u8], s: &[u8]) -> u32
 }
 
 // The digit that a sum gives, as it is written.
+#[tactic(auto, using(std::proofs::lemmas::Bool::Decides::nat_tests), unfolding(dirf::specs::Digits::check_digit))]
 fn check_digit(sum: u32) -> u8
     ensures { result ≡ 48 + check_digit sum }
 {

@@ -9,7 +9,7 @@ use Rattle.dirf.specs.Layout.{mark2022, relation}
 use Rattle.dirf.specs.Edition.{Edition, kind_in, name_of, rows_of}
 use Rattle.dirf.specs.Tree.{suits}
 use Rattle.fields.specs.Places.{most_fields}
-use Rattle.kinds.specs.Kinds.{tab, kinds}
+pub use Rattle.kinds.specs.Kinds.{tab, kinds}
 
 -- nothing stands below a kind from this number on: no row for it in the tables of what stands below what
 abbrev pub holders : ℕ

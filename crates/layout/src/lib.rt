@@ -11,7 +11,7 @@ ghost use Rattle.layout.specs.Codes.{row_codes};
 ghost use Rattle.editions.specs.Editions.{edition_said};
 
 use editions::Edition;
-use kinds::KINDS;
+pub use kinds::{KINDS, is_later, opens_nothing, stands_once};
 
 // Of what may stand below what: DTPSE, 67, is the last kind that holds another, and RDTPSE, 68, the last that is held.
 pub const HOLDERS: usize = 68;
