@@ -11,67 +11,52 @@ loop-left-init c = run_start _ _ c.requires
 
 pub bounds-s-i : goal.bounds-s-i
 bounds-s-i c =
-    let inside : c.loop-left.i < length c.args.s.now = run_inside c.loop-left.invariant c.loop-left-test.true in
+    let inside = run_inside c.loop-left.invariant c.loop-left-test.true in
     inside
 
 pub overflow_add-i : goal.overflow_add-i
 overflow_add-i c =
-    let inside : c.loop-left.i < length c.args.s.now = run_inside c.loop-left.invariant c.loop-left-test.true in
+    let inside = run_inside c.loop-left.invariant c.loop-left-test.true in
     omega (arith, inside)
 
 pub overflow_add-sum : goal.overflow_add-sum
 overflow_add-sum c =
-    let bar : let l = c.loop-left in let a = c.args in (l.sum + l.one ≤ sum_of a.n a.s.now)
-    × Run a.n a.s.now (l.sum + l.one) 0 (l.left - 1)
-    (l.i + 1) = run_bar c.loop-left.invariant c.loop-left-test.true c.if-b-eq124.true in
-    let fits : sum_of c.args.n c.args.s.now < 2 ^ 64 = c.requires.fits in
-    omega (arith, bar.0, fits)
+    let bar = run_bar c.loop-left.invariant c.loop-left-test.true c.if-b-eq124.true in
+    omega (arith, bar.0, c.requires.fits)
 
 pub loop-left-smaller-then-b-eq124 : goal.loop-left-smaller-then-b-eq124
 loop-left-smaller-then-b-eq124 c =
-    let inside : c.loop-left.i < length c.args.s.now = run_inside c.loop-left.invariant c.loop-left-test.true in
+    let inside = run_inside c.loop-left.invariant c.loop-left-test.true in
     omega (arith, inside)
 
 pub loop-left-preserved-then-b-eq124 : goal.loop-left-preserved-then-b-eq124
 loop-left-preserved-then-b-eq124 c =
-    let bar : let l = c.loop-left in let a = c.args in (l.sum + l.one ≤ sum_of a.n a.s.now)
-    × Run a.n a.s.now (l.sum + l.one) 0 (l.left - 1)
-    (l.i + 1) = run_bar c.loop-left.invariant c.loop-left-test.true c.if-b-eq124.true in
+    let bar = run_bar c.loop-left.invariant c.loop-left-test.true c.if-b-eq124.true in
     bar.1
 
 pub overflow_mul-one : goal.overflow_mul-one
 overflow_mul-one c =
-    let digit : let l = c.loop-left in let a = c.args in let one = l.one * 10 + (get_or a.s.now l.i 0 - 48)
-    in (48 ≤ get_or a.s.now l.i 0) × (one ≤ sum_of a.n a.s.now)
-    × Run a.n a.s.now l.sum one l.left (l.i + 1) = run_digit c.loop-left.invariant c.loop-left-test.true c.if-b-eq124.false in
-    let fits : sum_of c.args.n c.args.s.now < 2 ^ 64 = c.requires.fits in
-    omega (arith, digit.1, fits)
+    let digit = run_digit c.loop-left.invariant c.loop-left-test.true c.if-b-eq124.false in
+    omega (arith, digit.1, c.requires.fits)
 
 pub digit-requires : goal.digit-requires
 digit-requires c =
-    let digit : let l = c.loop-left in let a = c.args in let one = l.one * 10 + (get_or a.s.now l.i 0 - 48)
-    in (48 ≤ get_or a.s.now l.i 0) × (one ≤ sum_of a.n a.s.now)
-    × Run a.n a.s.now l.sum one l.left (l.i + 1) = run_digit c.loop-left.invariant c.loop-left-test.true c.if-b-eq124.false in
+    let digit = run_digit c.loop-left.invariant c.loop-left-test.true c.if-b-eq124.false in
     digit.0
 
 pub overflow_add-one : goal.overflow_add-one
 overflow_add-one c =
-    let digit : let l = c.loop-left in let a = c.args in let one = l.one * 10 + (get_or a.s.now l.i 0 - 48)
-    in (48 ≤ get_or a.s.now l.i 0) × (one ≤ sum_of a.n a.s.now)
-    × Run a.n a.s.now l.sum one l.left (l.i + 1) = run_digit c.loop-left.invariant c.loop-left-test.true c.if-b-eq124.false in
-    let fits : sum_of c.args.n c.args.s.now < 2 ^ 64 = c.requires.fits in
-    omega (arith, digit.1, fits, c.digit.ensures)
+    let digit = run_digit c.loop-left.invariant c.loop-left-test.true c.if-b-eq124.false in
+    omega (arith, digit.1, c.requires.fits, c.digit.ensures)
 
 pub loop-left-smaller : goal.loop-left-smaller
 loop-left-smaller c =
-    let inside : c.loop-left.i < length c.args.s.now = run_inside c.loop-left.invariant c.loop-left-test.true in
+    let inside = run_inside c.loop-left.invariant c.loop-left-test.true in
     omega (arith, inside)
 
 pub loop-left-preserved : goal.loop-left-preserved
 loop-left-preserved c =
-    let digit : let l = c.loop-left in let a = c.args in let one = l.one * 10 + (get_or a.s.now l.i 0 - 48)
-    in (48 ≤ get_or a.s.now l.i 0) × (one ≤ sum_of a.n a.s.now)
-    × Run a.n a.s.now l.sum one l.left (l.i + 1) = run_digit c.loop-left.invariant c.loop-left-test.true c.if-b-eq124.false in
+    let digit = run_digit c.loop-left.invariant c.loop-left-test.true c.if-b-eq124.false in
     rw c.digit.ensures digit.2
 
 pub returns : goal.returns
