@@ -30,69 +30,32 @@ past_cells rows k name bytes p i h =
 
 pub loop-i-init : goal.loop-i-init
 unfolding or_else ask_fields finding_of
-loop-i-init c = (omega arith, refl)
-
-pub offset_bounds-p-i : goal.offset_bounds-p-i
-unfolding or_else ask_fields finding_of
-offset_bounds-p-i c =
-    let few : c.field_count-n.result ≤ most_fields = rw c.field_count-n.ensures (count_bound (c.args.rows.now) c.args.k) in
-    omega (arith, few)
-
-pub bounds-p-i : goal.bounds-p-i
-unfolding or_else ask_fields finding_of
-bounds-p-i c =
-    let few : c.field_count-n.result ≤ most_fields = rw c.field_count-n.ensures (count_bound (c.args.rows.now) c.args.k) in
-    omega (arith, few)
-
-pub offset_bounds-p-i-in-loop-i : goal.offset_bounds-p-i-in-loop-i
-unfolding or_else ask_fields finding_of
-offset_bounds-p-i-in-loop-i c =
-    let few : c.field_count-n.result ≤ most_fields = rw c.field_count-n.ensures (count_bound (c.args.rows.now) c.args.k) in
-    omega (arith, few)
-
-pub bounds-p-i-in-loop-i : goal.bounds-p-i-in-loop-i
-unfolding or_else ask_fields finding_of
-bounds-p-i-in-loop-i c =
-    let few : c.field_count-n.result ≤ most_fields = rw c.field_count-n.ensures (count_bound (c.args.rows.now) c.args.k) in
-    omega (arith, few)
-
-pub overflow_add-result : goal.overflow_add-result
-unfolding or_else ask_fields finding_of
-overflow_add-result c =
-    let few : c.field_count-n.result ≤ most_fields = rw c.field_count-n.ensures (count_bound (c.args.rows.now) c.args.k) in
-    omega (arith, few)
-
-pub overflow_cast-result : goal.overflow_cast-result
-unfolding or_else ask_fields finding_of
-overflow_cast-result c =
-    let few : c.field_count-n.result ≤ most_fields = rw c.field_count-n.ensures (count_bound (c.args.rows.now) c.args.k) in
-    omega (arith, few)
+loop-i-init c =
+    record { within = omega arith; few = rw c.field_count-n.ensures (count_bound (c.args.rows.now) c.args.k); left = refl }
 
 pub returns-then-number-ne0 : goal.returns-then-number-ne0
 unfolding or_else ask_fields finding_of cell_at
 returns-then-number-ne0 c =
-    let few : c.field_count-n.result ≤ most_fields = rw c.field_count-n.ensures (count_bound (c.args.rows.now) c.args.k) in
     let found_here : FieldFound (c.args.rows.now) c.args.k (c.args.name.now)
     (cells_at c.args.bytes.now c.args.p) c.loop-i.i c.field_rule-number.result = let a = c.args in
-    let h : c.loop-i.i < min most_fields a.p.count = omega (arith, few) in
+    let h : c.loop-i.i < min most_fields a.p.count = omega (arith, c.loop-i.invariant.few) in
     let p = c.part-part.ensures.0 ∙ sym (cell_at_lem a.bytes.now a.p c.loop-i.i [] h) in
     field_found (c.args.rows.now) a.k (c.args.name.now)
     (cells_at c.args.bytes.now c.args.p) c.loop-i.i (omega (arith, c.field_count-n.ensures))
     (omega (arith, cells_length a.bytes.now a.p)) (c.field_rule-number.ensures ∙ rw (c.row_at.ensures, p)) in
-    rw (in_parts, c.loop-i.invariant.1 ∙ found_here.0 c.if-number-ne0.true)
+    rw (in_parts, c.loop-i.invariant.left ∙ found_here.0 c.if-number-ne0.true)
 
 pub loop-i-preserved : goal.loop-i-preserved
 unfolding or_else ask_fields finding_of cell_at
 loop-i-preserved c =
-    let few : c.field_count-n.result ≤ most_fields = rw c.field_count-n.ensures (count_bound (c.args.rows.now) c.args.k) in
     let found_here : FieldFound (c.args.rows.now) c.args.k (c.args.name.now)
     (cells_at c.args.bytes.now c.args.p) c.loop-i.i c.field_rule-number.result = let a = c.args in
-    let h : c.loop-i.i < min most_fields a.p.count = omega (arith, few) in
+    let h : c.loop-i.i < min most_fields a.p.count = omega (arith, c.loop-i.invariant.few) in
     let p = c.part-part.ensures.0 ∙ sym (cell_at_lem a.bytes.now a.p c.loop-i.i [] h) in
     field_found (c.args.rows.now) a.k (c.args.name.now)
     (cells_at c.args.bytes.now c.args.p) c.loop-i.i (omega (arith, c.field_count-n.ensures))
     (omega (arith, cells_length a.bytes.now a.p)) (c.field_rule-number.ensures ∙ rw (c.row_at.ensures, p)) in
-    (omega arith, c.loop-i.invariant.1 ∙ found_here.1 c.if-number-ne0.false)
+    record { within = omega arith; few = c.loop-i.invariant.few; left = c.loop-i.invariant.left ∙ found_here.1 c.if-number-ne0.false }
 
 pub returns : goal.returns
 unfolding or_else ask_fields finding_of
@@ -105,4 +68,4 @@ returns c =
           (c.field_count-n.ensures ∙ sym (rows_length a.rows.now a.k)) w.loop-i-test.false
       | then-loop-i-test+then-p-i w ↦ past_cells a.rows.now a.k a.name.now a.bytes.now a.p i w.if-p-i.true
     ] in
-    rw (in_parts, c.loop-i.invariant.1 ∙ e) c.conditions_found.ensures
+    rw (in_parts, c.loop-i.invariant.left ∙ e) c.conditions_found.ensures
