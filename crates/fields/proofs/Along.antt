@@ -25,4 +25,4 @@ module _ (text : Text) (small : length text ≤ 18446744073709551615) where
 
   pub along_cells : (ns : List ℕ) → sum ns ≡ length text → length ns ≤ most_fields → cells_at text (places_along ns) ≡ cut ns text
   unfolding places_along no_places cells_at cells_from
-  along_cells ns e h = cells_along ns 0 no_places (omega arith) record { starts = refl; lens = refl } (omega arith)
+  along_cells ns e h = cells_along ns 0 no_places (omega arith) refl (omega arith)

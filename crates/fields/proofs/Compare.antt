@@ -1,51 +1,28 @@
--- Two texts compared a byte at a time, from byte i on.
-use Prim.Native.Nat.{ℕ, ◌+◌, ◌≤◌, ◌<◌}
-use mathlib.Core.Path.{◌≡◌, ap}
-use mathlib.Core.Bool.{true, false, or-false}
-use native.Mathlib.Numerals.{add-one}
-use native.Mathlib.Omega.{arith}
-use lib.Dec.{ltb}
-use lib.ListN.{length, get_or, drop, drop_of_length-le}
-use lib.Seq.{drop-cons}
-use borrow.Author.Tests.{eq-eqb, ne_eqb, lt-ltb, le-ltb}
+-- The library compares two slices as document 01 does: byte for byte, and byte by byte with a proper beginning first.
+use mathlib.Core.Path.{◌≡◌, refl, ap}
+use mathlib.Core.Bool.{◌&&◌}
+use mathlib.Core.List.{[], ◌∷◌}
+use lib.Dec.{eqb, ltb}
+use lib.Pointwise.{pointwise}
+use Rattle.std.specs.Prelude.{Some}
+use Rattle.std.specs.Ordering.{is_lt, is_some_and, nat_cmp}
+use Rattle.std.specs.Cmp.Lexicographic.{slice_partial_cmp}
 use Rattle.dirf.specs.Bytes.{Text, same, less}
-use Rattle.dirf.proofs.tests.Says.{denies, below_or, same_says}
+use Rattle.dirf.proofs.tests.Bools.{by_answer}
 
-pub same_longer : (a b : Text) → (length a ≡ length b → ⊥) → same a b ≡ false
-same_longer a b h = (denies (same a b) (same_says a b)).1 (λ e. h (ap length e))
+pub same_lem : (a b : Text) → pointwise eqb a b ≡ same a b
+unfolding same
+same_lem [] [] = refl
+same_lem [] (y ∷ b) = refl
+same_lem (x ∷ a) [] = refl
+same_lem (x ∷ a) (y ∷ b) = ap (λ t. eqb x y && t) (same_lem a b)
 
-module _ (a b : Text) (i : ℕ) where
-  pub same_on : get_or a i 0 ≡ get_or b i 0 → i < length a → i < length b
-      → same (drop i a) (drop i b) ≡ same (drop (i + 1) a) (drop (i + 1) b)
-  unfolding same
-  same_on e h k = rw (add-one, drop-cons a i 0, drop-cons b i 0, eq-eqb (get_or a i 0) (get_or b i 0) e, same)
-
-  pub same_off : (get_or a i 0 ≡ get_or b i 0 → ⊥) → i < length a → i < length b → same (drop i a) (drop i b) ≡ false
-  unfolding same
-  same_off e h k = rw (drop-cons a i 0, drop-cons b i 0, ne_eqb (get_or a i 0) (get_or b i 0) e, same)
-
-  pub same_end : length a ≤ i → length b ≤ i → same (drop i a) (drop i b) ≡ true
-  unfolding same
-  same_end h k = rw (drop_of_length-le a h, drop_of_length-le b k)
-
-  pub less_on : get_or a i 0 ≡ get_or b i 0 → i < length a → i < length b
-      → less (drop i a) (drop i b) ≡ less (drop (i + 1) a) (drop (i + 1) b)
-  unfolding less
-  less_on e h k =
-      let l : get_or b i 0 ≤ get_or a i 0 = omega arith in
-      rw (add-one, drop-cons a i 0, drop-cons b i 0, le-ltb (get_or a i 0) (get_or b i 0) l, eq-eqb (get_or a i 0) (get_or b i 0) e, less)
-
-  pub less_off : (get_or a i 0 ≡ get_or b i 0 → ⊥) → i < length a → i < length b
-      → less (drop i a) (drop i b) ≡ ltb (get_or a i 0) (get_or b i 0)
-  unfolding less
-  less_off e h k = rw (drop-cons a i 0, drop-cons b i 0, ne_eqb (get_or a i 0) (get_or b i 0) e, less, or-false)
-
-  pub less_short : i < length a → length b ≤ i → less (drop i a) (drop i b) ≡ false
-  unfolding less
-  less_short h k = rw (drop-cons a i 0, drop_of_length-le b k)
-
-  pub less_end : length a ≤ i → less (drop i a) (drop i b) ≡ ltb i (length b)
-  unfolding less
-  less_end h =
-      below_or (length b) i (λ k. rw (lt-ltb i (length b) k, drop_of_length-le a h, drop-cons b i 0))
-      (λ k. rw (le-ltb i (length b) k, drop_of_length-le a h, drop_of_length-le b k))
+-- of the two bytes at hand the smaller one decides, and where they are the same what follows
+pub less_lem : (a b : Text) → is_some_and is_lt (slice_partial_cmp (λ x y. Some (nat_cmp x y)) a b) ≡ less a b
+unfolding less
+less_lem [] [] = refl
+less_lem [] (y ∷ b) = refl
+less_lem (x ∷ a) [] = refl
+less_lem (x ∷ a) (y ∷ b) =
+    by_answer (ltb x y) (λ l. rw l)
+    (λ l. by_answer (eqb x y) (λ e. rw (l, e) (less_lem a b)) (λ e. rw (l, e)))

@@ -59,3 +59,8 @@ pub numbers : (a b : Text)
     → key_less (fewer_digits_first a) (fewer_digits_first b) ≡ (ltb (length a) (length b) || eqb (length a) (length b) && less a b)
 unfolding key_less fewer_digits_first less same
 numbers a b = simp (and-false, or-false, and-true)
+
+-- keys of two fields compare by the first, and where that is the same by the second
+pub both_fields : (a b x y : Text) → key_less (a ∷ b ∷ []) (x ∷ y ∷ []) ≡ (less a x || same a x && less b y)
+unfolding key_less
+both_fields a b x y = simp (and-false, or-false)

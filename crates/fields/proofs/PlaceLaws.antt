@@ -13,8 +13,9 @@ use Rattle.dirf.specs.Limits.{bar}
 use Rattle.dirf.specs.Lines.{more, fields, field}
 use Rattle.dirf.specs.Keys.{fewer_digits_first, key_of}
 use Rattle.dirf.proofs.tests.Bools.{if_cases, by_answer}
+use Rattle.fields.specs.declared.Place.{Place}
 use Rattle.fields.specs.declared.Places.{Places}
-use Rattle.fields.specs.Places.{part_of, most_fields, no_places, add_place, places_from, places_of, cell_at, cells_from, cells_at}
+use Rattle.fields.specs.Places.{part_of, most_fields, no_place, no_places, add_place, places_from, places_of, cell_at, cells_from, cells_at}
 use Rattle.fields.specs.Places.{key_parts}
 use Rattle.fields.specs.Places.{bar_in}
 use Rattle.fields.proofs.Bars.{cut, uncut}
@@ -63,10 +64,12 @@ module _ (s : Text) (p : Places) where
   from_more i zero = rw add-zero
   from_more i (suc n) = let m : suc i + n ≡ i + suc n = omega arith in rw (from_more (suc i) n, m)
 
--- both lists of places have fifteen entries
-pub record Fifteen (p : Places) : Type 0 where
-  pub starts : length p.starts ≡ most_fields
-  pub lens : length p.lens ≡ most_fields
+-- the list of places has fifteen entries
+abbrev pub Fifteen : Places → Type 0
+Fifteen p = length p.first ≡ most_fields
+
+abbrev place : ℕ → ℕ → Place
+place start len = record { start = start; len = len }
 
 -- a place added leaves the cells before it as they are, and is the last
 module _ (line : Text) (p : Places) (a b : ℕ) where
@@ -76,11 +79,11 @@ module _ (line : Text) (p : Places) (a b : ℕ) where
   from_kept i (suc n) h =
       let o : i ≡ p.count → ⊥ = omega arith in
       let l = from_kept (suc i) n (omega arith) in
-      rw (get_or-set_other p.starts p.count i a 0 o, get_or-set_other p.lens p.count i b 0 o, l)
+      rw (get_or-set_other p.first p.count i (place a b) no_place o, l)
 
   pub fifteen_more : Fifteen p → Fifteen (add_place p a b)
   unfolding add_place
-  fifteen_more f = record { starts = rw length-set f.starts; lens = rw length-set f.lens }
+  fifteen_more f = rw length-set f
 
   pub cells_more : Fifteen p → p.count < most_fields → cells_at line (add_place p a b) ≡ cells_at line p ++ (part_of line a b ∷ [])
   unfolding cells_at cell_at add_place
@@ -93,8 +96,7 @@ module _ (line : Text) (p : Places) (a b : ℕ) where
         from_more line (add_place p a b) 0 p.count,
         from_kept 0 p.count (omega arith),
         zero-add,
-        get_or-set_same p.starts p.count a 0 (omega arith),
-        get_or-set_same p.lens p.count b 0 (omega arith),
+        get_or-set_same p.first p.count (place a b) no_place (omega arith),
       )
 
 -- from byte `at` on, in a field that began at `start`: the cells so far, then those of the fields from `start` on
@@ -122,7 +124,7 @@ module _ (line : Text) where
 pub places_cells : (line : Text) → length (fields line) ≤ most_fields → cells_at line (places_of line) ≡ fields line
 unfolding places_of no_places cells_at cells_from
 places_cells line h =
-    walk_cells line line 0 0 no_places refl (omega arith) refl record { starts = refl; lens = refl } (omega arith)
+    walk_cells line line 0 0 no_places refl (omega arith) refl refl (omega arith)
 
 -- the key of a record is made of its fields 2 and 3
 pub key_of_cells : (k : ℕ) (cells : List Text) → key_of k cells ≡ key_parts k (field 2 cells) (field 3 cells)

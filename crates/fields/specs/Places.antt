@@ -1,5 +1,5 @@
 -- Where the fields of a line stand: starts and lengths, by value.
-use Rattle.std.specs.Prelude.{ℕ, zero, suc, ◌+◌, ◌-◌, min, List, [], ◌∷◌, eqb, length, get_or, take, drop, set, replicate, if◌then◌else◌}
+use Rattle.std.specs.Prelude.{ℕ, zero, suc, ◌+◌, ◌-◌, min, List, [], ◌∷◌, eqb, length, get_or, take, drop, set, replicate, Option, Some, None, if◌then◌else◌}
 use Rattle.dirf.specs.Bytes.{Text}
 use Rattle.dirf.specs.Limits.{bar}
 use Rattle.dirf.specs.FieldReader.{field_there, field_start, field_length}
@@ -13,22 +13,25 @@ use Rattle.fields.specs.declared.Scanned.{Scanned}
 unfoldable pub part_of : Text → ℕ → ℕ → Text
 part_of s start len = take len (drop start s)
 
--- the place of field k: there or not, its start, its length
-unfoldable pub place_of : Text → ℕ → Place
-place_of line k = record { there = field_there k line; start = field_start k line; len = field_length k line }
+-- the place of field k, if there is one: its start, its length
+unfoldable pub place_of : Text → ℕ → Option Place
+place_of line k =
+    if field_there k line then Some (record { start = field_start k line; len = field_length k line }) else None
 
 -- no record has more fields than this
 abbrev pub most_fields : ℕ
 most_fields = 15
 
+abbrev pub no_place : Place
+no_place = record { start = 0; len = 0 }
+
 -- no field yet
 unfoldable pub no_places : Places
-no_places = record { count = 0; starts = replicate most_fields 0; lens = replicate most_fields 0 }
+no_places = record { count = 0; first = replicate most_fields no_place }
 
 -- one field more; past the fifteenth only the count goes on
 unfoldable pub add_place : Places → ℕ → ℕ → Places
-add_place p start len =
-    record { count = p.count + 1; starts = set p.starts p.count start; lens = set p.lens p.count len }
+add_place p start len = record { count = p.count + 1; first = set p.first p.count (record { start = start; len = len }) }
 
 -- from byte `at` on, in a field that began at `start`
 unfoldable pub places_from : Text → ℕ → ℕ → Places → Places
@@ -54,7 +57,7 @@ places_along ns = along_from ns 0 no_places
 
 -- what stands at the places, field by field: cell i, from 0
 unfoldable pub cell_at : Text → Places → ℕ → Text
-cell_at s p i = part_of s (get_or p.starts i 0) (get_or p.lens i 0)
+cell_at s p i = let at = get_or p.first i no_place in part_of s at.start at.len
 
 unfoldable pub cells_from : Text → Places → ℕ → ℕ → List Text
 cells_from s p i zero = []

@@ -1,13 +1,15 @@
 // The field reader, the places of a line's fields, and the order of keys.
 #![tactic(auto)]
 
-ghost use Rattle.std.specs.Prelude.{◌≡◌, [], ◌∷◌, ◌+◌, ◌≤◌, ◌<◌, min, length, drop, set, if◌then◌else◌};
+ghost use Rattle.std.specs.Prelude.{◌≡◌, [], ◌∷◌, ◌+◌, ◌<◌, ◌==◌, min, length, if◌then◌else◌};
+ghost use Rattle.std.specs.List.{position};
 ghost use Rattle.dirf.specs.Bytes.{is_in, same as same_text, less as less_text};
 ghost use Rattle.dirf.specs.Kinds.{reimbursements};
+ghost use Rattle.dirf.specs.Limits.{bar};
 ghost use Rattle.dirf.specs.Lines.{is_line_end, fields as fields_of};
 ghost use Rattle.dirf.specs.FieldReader.{field_there, field_of, field_start};
 ghost use Rattle.dirf.specs.Keys.{key_fields, fewer_digits_first, key_of, key_less};
-ghost use Rattle.fields.specs.Places.{part_of, place_of, scan_of, places_along, key_parts, bar_in};
+ghost use Rattle.fields.specs.Places.{part_of, no_places, add_place, place_of, scan_of, places_along, key_parts};
 
 // No record has more fields than this.
 pub const MOST_FIELDS: usize = 15;
@@ -15,17 +17,39 @@ pub const MOST_FIELDS: usize = 15;
 // Where a field stands in its line.
 #[derive(Clone, Copy)]
 pub struct Place {
-    pub there: bool,
     pub start: usize,
     pub len: usize,
 }
 
-// Where the fields of a line stand: how many there are, and the first fifteen's starts and lengths.
+// Where the fields of a line stand: how many there are, and the places of the first fifteen.
 #[derive(Clone, Copy)]
 pub struct Places {
     pub count: usize,
-    pub starts: [usize; MOST_FIELDS],
-    pub lens: [usize; MOST_FIELDS],
+    pub first: [Place; MOST_FIELDS],
+}
+
+impl Places {
+    #[tactic(auto, unfolding(crate::specs::Places::no_places))]
+    fn none() -> Places
+        ensures { result ≡ no_places }
+    {
+        Places {
+            count: 0,
+            first: [Place { start: 0, len: 0 }; MOST_FIELDS],
+        }
+    }
+
+    // One field more; past the fifteenth only the count goes on.
+    #[tactic(auto, using(std::proofs::lemmas::List::set_past), unfolding(crate::specs::Places::add_place))]
+    fn add(&mut self, place: Place)
+        requires { self.old.count < 18446744073709551615 }
+        ensures { self.new ≡ add_place self.old place.start place.len }
+    {
+        if self.count < MOST_FIELDS {
+            self.first[self.count] = place;
+        }
+        self.count += 1;
+    }
 }
 
 // How many bytes stand before the first CR or LF, or before the end, and where their fields stand.
@@ -36,80 +60,44 @@ pub struct Scanned {
 }
 
 // The part at a place, as a part of the caller's own bytes; past the end there is nothing.
+#[tactic(auto, using(std::proofs::lemmas::List::take_min, std::proofs::lemmas::List::drop_min), unfolding(crate::specs::Places::part_of))]
 pub fn part(s: &[u8], start: usize, len: usize) -> &[u8]
     ensures { (result.now ≡ part_of s.now start len)
         × ((result.ref_ptr.0 ≡ s.entry.ref_ptr.0) × (result.ref_ptr.1 ≡ s.entry.ref_ptr.1 + min start (length s.now))) }
 {
-    let n = s.len();
-    if n <= start {
-        return &s[n..n];
-    }
-    if n - start <= len {
-        return &s[start..n];
-    }
-    let end = start + len;
-    &s[start..end]
+    let rest = &s[start.min(s.len())..];
+    &rest[..len.min(rest.len())]
 }
 
 // Byte for byte, case kept.
+#[tactic(auto, using(crate::proofs::Compare::same_lem))]
 pub fn same(a: &[u8], b: &[u8]) -> bool
     ensures { result ≡ same_text a.now b.now }
 {
-    // most pairs differ in length already
-    if a.len() != b.len() {
-        return false;
-    }
-    let mut i = 0;
-    while i < a.len() {
-        if a[i] != b[i] {
-            return false;
-        }
-        i += 1;
-    }
-    true
+    a == b
 }
 
 // Byte by byte, a proper beginning first.
 pub fn less(a: &[u8], b: &[u8]) -> bool
     ensures { result ≡ less_text a.now b.now }
 {
-    let mut i = 0;
-    while i < a.len() {
-        if b.len() <= i {
-            return false;
-        }
-        if a[i] != b[i] {
-            return a[i] < b[i];
-        }
-        i += 1;
-    }
-    i < b.len()
+    a < b
 }
 
 // Whether the key of fields 2 and 3, a then b, comes before that of x then y: of the first field alone, or of both.
+#[tactic(auto, using(crate::proofs::Keys::both_fields))]
 fn then_less(a: &[u8], b: &[u8], x: &[u8], y: &[u8]) -> bool
     ensures { result ≡ key_less (a.now ∷ b.now ∷ []) (x.now ∷ y.now ∷ []) }
 {
-    if less(a, x) {
-        return true;
-    }
-    if same(a, x) {
-        return less(b, y);
-    }
-    false
+    less(a, x) || same(a, x) && less(b, y)
 }
 
 // Whether a number comes before another: the one with fewer digits first, then byte by byte.
+#[tactic(auto, using(crate::proofs::Keys::numbers, std::proofs::lemmas::Bool::Decides::nat_tests))]
 fn number_less(a: &[u8], b: &[u8]) -> bool
     ensures { result ≡ key_less (fewer_digits_first a.now) (fewer_digits_first b.now) }
 {
-    if a.len() < b.len() {
-        return true;
-    }
-    if a.len() == b.len() {
-        return less(a, b);
-    }
-    false
+    a.len() < b.len() || a.len() == b.len() && less(a, b)
 }
 
 // Whether a key of field 2 alone comes before another: that of RTPSE and RDTPSE is a CPF or a CNPJ.
@@ -151,51 +139,24 @@ pub fn key_count(k: u32) -> usize
     }
 }
 
-// The first bar at or after `from`, else the line's end.
-fn bar_from(line: &[u8], from: usize) -> usize
-    requires { from ≤ length line.now }
-    ensures { result ≡ from + bar_in (drop from line.now) }
+// Where the first bar stands.
+fn first_bar(s: &[u8]) -> Option<usize>
+    ensures { result ≡ position (λ b. b == bar) s.now }
 {
-    let mut i = from;
-    while i < line.len() {
-        if line[i] == 124 {
-            return i;
-        }
-        i += 1;
-    }
-    i
+    s.iter().position(|b| *b == b'|')
 }
 
-// Where field k stands; where there is none, the empty part at the line's end.
-pub fn place_of(line: &[u8], k: usize) -> Place
+// Where field k stands, if there is one.
+pub fn place_of(line: &[u8], k: usize) -> Option<Place>
     ensures { result ≡ place_of line.now k }
 {
+    let before = k.checked_sub(1)?;
     let mut start = 0;
-    let mut left = k;
-    while 0 < left {
-        let e = bar_from(line, start);
-        if line.len() <= e {
-            return Place {
-                there: false,
-                start: line.len(),
-                len: 0,
-            };
-        }
-        if left == 1 {
-            return Place {
-                there: true,
-                start: start,
-                len: e - start,
-            };
-        }
-        start = e + 1;
-        left -= 1;
+    for _ in 0..before {
+        start += first_bar(&line[start..])? + 1;
     }
-    Place {
-        there: false,
-        start: line.len(),
-        len: 0,
-    }
+    let len = first_bar(&line[start..])?;
+    Some(Place { start, len })
 }
 
 // Field k, as a part of the caller's own line: its bytes, and where in the line they stand.
@@ -203,78 +164,47 @@ pub fn field(line: &[u8], k: usize) -> &[u8]
     ensures { (result.now ≡ field_of k line.now)
         × ((result.ref_ptr.0 ≡ line.entry.ref_ptr.0) × (result.ref_ptr.1 ≡ line.entry.ref_ptr.1 + field_start k line.now)) }
 {
-    let p = place_of(line, k);
-    let s = p.start;
-    let e = s + p.len;
-    &line[s..e]
+    match place_of(line, k) {
+        Some(Place { start, len }) => &line[start..start + len],
+        None => &line[line.len()..],
+    }
 }
 
 // Whether there is a field k.
+#[tactic(auto, unfolding(crate::specs::Places::place_of))]
 pub fn field_there(line: &[u8], k: usize) -> bool
     ensures { result ≡ field_there k line.now }
 {
-    place_of(line, k).there
-}
-
-// Notes a number at place n; past the last place nothing is noted.
-fn note(to: &mut [usize], n: usize, v: usize)
-    ensures { to.new ≡ set to.old n v }
-{
-    if n < to.len() {
-        to[n] = v;
-    }
+    place_of(line, k).is_some()
 }
 
 // A CR or an LF.
+#[tactic(auto, using(std::proofs::lemmas::Bool::Decides::nat_tests), unfolding(dirf::specs::Lines::is_line_end))]
 fn ends_line(b: u8) -> bool
     ensures { result ≡ is_line_end b }
 {
-    // most bytes of a line are greater
-    if 13 < b {
-        return false;
-    }
-    if b == 13 {
-        return true;
-    }
-    b == 10
+    b == b'\r' || b == b'\n'
 }
 
 // The bytes before the first CR or LF, or before the end, and their fields: the one walk over a line.
 pub fn scan(s: &[u8]) -> Scanned
     ensures { result ≡ scan_of s.now }
 {
-    let mut count = 0;
-    let mut starts = [0; MOST_FIELDS];
-    let mut lens = [0; MOST_FIELDS];
+    let mut places = Places::none();
     let mut start = 0;
-    let mut i = 0;
-    while i < s.len() {
-        let b = s[i];
+    for (i, &b) in s.iter().enumerate() {
         if ends_line(b) {
-            return Scanned {
-                len: i,
-                places: Places {
-                    count: count,
-                    starts: starts,
-                    lens: lens,
-                },
-            };
+            return Scanned { len: i, places };
         }
-        if b == 124 {
-            note(&mut starts, count, start);
-            note(&mut lens, count, i - start);
-            count += 1;
+        if b == b'|' {
+            let len = i - start;
+            places.add(Place { start, len });
             start = i + 1;
         }
-        i += 1;
     }
     Scanned {
-        len: i,
-        places: Places {
-            count: count,
-            starts: starts,
-            lens: lens,
-        },
+        len: s.len(),
+        places,
     }
 }
 
@@ -282,30 +212,11 @@ pub fn scan(s: &[u8]) -> Scanned
 pub fn places_along(lengths: &[usize]) -> Places
     ensures { result ≡ places_along lengths.now }
 {
-    let mut starts = [0; MOST_FIELDS];
-    let mut lens = [0; MOST_FIELDS];
-    let mut at = 0;
-    let mut i = 0;
-    while i < lengths.len() {
-        let n = lengths[i];
-        note(&mut starts, i, at);
-        note(&mut lens, i, n);
-        at = capped(at, n);
-        i += 1;
+    let mut places = Places::none();
+    let mut start: usize = 0;
+    for &len in lengths {
+        places.add(Place { start, len });
+        start = start.saturating_add(len);
     }
-    Places {
-        count: i,
-        starts: starts,
-        lens: lens,
-    }
-}
-
-// The sum of two numbers, the last integer where it is none.
-fn capped(a: usize, b: usize) -> usize
-    ensures { result ≡ min (a + b) 18446744073709551615 }
-{
-    if 18446744073709551615 - a < b {
-        return 18446744073709551615;
-    }
-    a + b
+    places
 }

@@ -3,7 +3,7 @@ use Prim.Native.Nat.{ℕ, ◌+◌}
 use mathlib.Core.Path.{◌≡◌, refl, sym, ap, ap₂, ◌∙◌}
 use mathlib.Core.List.{[]}
 use native.Mathlib.Omega.{arith}
-use lib.ListN.{length, drop, length-set}
+use lib.ListN.{length, drop}
 use Rattle.dirf.specs.Bytes.{Text}
 use Rattle.dirf.specs.Lines.{clean}
 use Rattle.fields.specs.declared.Places.{Places}
@@ -24,23 +24,15 @@ done s i start p n q e =
 
 pub loop-i-init : goal.loop-i-init
 unfolding places_of no_places
-loop-i-init c = (omega arith, (record { starts = refl; lens = refl }, (omega arith, refl)))
+loop-i-init c =
+    let n = c.none-places.ensures in
+    ((omega arith, omega (arith, ap (λ p. p.count) n)), (omega arith, rw n refl))
 
 pub returns-then-ends_line : goal.returns-then-ends_line
-unfolding places_of no_places
 returns-then-ends_line c =
     let l = c.loop-i in
-    let h = c.loop-i-test.true in
     let n = sym c.ends_line.ensures ∙ c.if-ends_line.true in
-    done _ l.i l.start _ l.invariant.1.1.0 l.invariant.1.1.1 (clean_stop _ l.i n h)
-
-pub slice_bounds-note-end : goal.slice_bounds-note-end
-unfolding places_of no_places
-slice_bounds-note-end c = sym c.loop-i.invariant.1.0.starts
-
-pub slice_bounds-note-end-then-b-eq124 : goal.slice_bounds-note-end-then-b-eq124
-unfolding places_of no_places
-slice_bounds-note-end-then-b-eq124 c = sym c.loop-i.invariant.1.0.lens
+    done _ l.i l.start _ l.invariant.1.0 l.invariant.1.1 (clean_stop _ l.i n c.loop-i-test.true)
 
 pub loop-i-preserved : goal.loop-i-preserved
 unfolding add_place
@@ -48,37 +40,25 @@ loop-i-preserved c =
     let l = c.loop-i in
     let h = c.loop-i-test.true in
     let n = sym c.ends_line.ensures ∙ c.if-ends_line.false in
-    let f = l.invariant.1.0 in
     let less = ap length (clean_on c.args.s.now l.i n h) in
     elim c.if-b-eq124.branch [
-      | then-b-eq124 w ↦ (
-        omega (arith, w.count-is, w.start-is),
-        (
-          record {
-            starts = rw (w.starts-is, w.note.ensures, length-set) f.starts;
-            lens = rw (w.lens-is, w.note-then-b-eq124.ensures, length-set) f.lens;
-          },
-          (
-            omega (arith, w.start-is, l.invariant.1.1.0, less),
-            l.invariant.1.1.1 ∙ walk_bar _ l.i l.start _ n w.if-b-eq124.true h
-                ∙ cc (w.note.ensures, w.note-then-b-eq124.ensures, w.count-is, w.starts-is, w.lens-is, w.start-is),
-          ),
-        ),
-      )
+      | then-b-eq124 w ↦
+          let e = w.places-is ∙ w.add.ensures in (
+            (omega (arith, w.start-is), omega (arith, ap (λ p. p.count) e)),
+            (omega (arith, l.invariant.1.0, less), l.invariant.1.1 ∙ walk_bar _ l.i l.start _ n w.if-b-eq124.true h ∙ cc (e, w.start-is)),
+          )
       | else-b-eq124 w ↦ (
-        omega (arith, w.count-is, w.start-is),
+        (omega (arith, w.start-is), omega (arith, ap (λ p. p.count) w.places-is)),
         (
-          record { starts = rw w.starts-is f.starts; lens = rw w.lens-is f.lens },
-          (
-            omega (arith, w.start-is, l.invariant.1.1.0, less),
-            l.invariant.1.1.1 ∙ walk_on _ l.i l.start _ n w.if-b-eq124.false h ∙ cc (w.count-is, w.starts-is, w.lens-is, w.start-is),
-          ),
+          omega (arith, l.invariant.1.0, less),
+          l.invariant.1.1 ∙ walk_on _ l.i l.start _ n w.if-b-eq124.false h ∙ cc (w.places-is, w.start-is),
         ),
       )
     ]
 
 pub returns : goal.returns
-unfolding places_of no_places
 returns c =
     let l = c.loop-i in
-    done _ l.i l.start _ l.invariant.1.1.0 l.invariant.1.1.1 (clean_end _ l.i c.loop-i-test.false)
+    let n : l.i ≡ length c.args.s.now = omega arith in
+    ap (λ k. record { len = k; places = l.places }) (sym n)
+    ∙ done _ l.i l.start _ l.invariant.1.0 l.invariant.1.1 (clean_end _ l.i c.loop-i-test.false)
