@@ -1,5 +1,5 @@
 -- The field that the conditions of a kind name, by what their tests answer: of a kind that has none, and of DECPF.
-use Rattle.std.specs.Prelude.{if◌then◌else◌}
+use Rattle.std.specs.Prelude.{Option, Some, None, if◌then◌else◌}
 use Prim.Native.Nat.{ℕ}
 use mathlib.Core.Path.{◌≡◌, refl}
 use mathlib.Core.Bool.{Bool, true, false, ◌&&◌, not, and_assoc}
@@ -23,14 +23,15 @@ no_byte (b ∷ s) = ne_eqb (length (b ∷ s)) 0 (λ e. omega arith)
 
 -- a kind that has no condition
 pub no_conditions : (k : ℕ) (cells : List Text) → is_in k (PROC ∷ RRA ∷ []) ≡ false → is_in k (DECPF ∷ [])
-    ≡ false → broken_field k cells ≡ 0
+    ≡ false → broken_field k cells ≡ None
 unfolding ask_conditions condition_order given or_else field_of broken_field
 no_conditions k cells h i = rw (h, i)
 
 -- the field by what the tests of DECPF answer
-unfoldable pub conditioned : Bool → Bool → Bool → Bool → Bool → ℕ
+unfoldable pub conditioned : Bool → Bool → Bool → Bool → Bool → Option ℕ
 conditioned special date type death estate =
-    if not special then 0 else (if date then 9 else (if type then 10 else (if death then 11 else (if estate then 0 else 13))))
+    if not special then None
+    else (if date then Some 9 else (if type then Some 10 else (if death then Some 11 else (if estate then None else Some 13))))
 
 four : (a b c d : Bool) → Found
 four a b c d = or_else (given 19 9 a) (or_else (given 19 10 b) (or_else (given 19 11 c) (or_else (given 19 13 d) keeps)))

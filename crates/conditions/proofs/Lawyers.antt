@@ -1,5 +1,5 @@
 -- The field that the conditions of PROC and RRA name, by what field 4 says of the lawyer.
-use Rattle.std.specs.Prelude.{if◌then◌else◌}
+use Rattle.std.specs.Prelude.{Option, Some, None, if◌then◌else◌}
 use Prim.Native.Nat.{ℕ}
 use mathlib.Core.Path.{◌≡◌, refl, sym, ◌∙◌}
 use mathlib.Core.Bool.{Bool, true, false, ◌&&◌, or-false}
@@ -23,14 +23,14 @@ pub as_of_proc : (cells : List Text) {k : ℕ} → OneOf (PROC ∷ RRA ∷ []) k
 unfolding is_in some ask_conditions condition_order broken_field
 as_of_proc cells = keys (λ k. broken_field k cells) (broken_field PROC cells) PROC (RRA ∷ []) refl
 
-two : (a b : Bool) → field_of (or_else (given 19 5 a) (or_else (given 19 6 b) keeps)) ≡ (if a then 5 else (if b then 6 else 0))
+two : (a b : Bool) → field_of (or_else (given 19 5 a) (or_else (given 19 6 b) keeps)) ≡ (if a then Some 5 else (if b then Some 6 else None))
 unfolding given or_else field_of
 two true b = refl
 two false true = refl
 two false false = refl
 
 lawyer_field : (cells : List Text)
-    → broken_field PROC cells ≡ (if lawyers_number_wrong cells then 5 else (if lawyers_name_too_long cells then 6 else 0))
+    → broken_field PROC cells ≡ (if lawyers_number_wrong cells then Some 5 else (if lawyers_name_too_long cells then Some 6 else None))
 unfolding is_in some ask_conditions condition_order given or_else broken_field
 lawyer_field cells = two (lawyers_number_wrong cells) (lawyers_name_too_long cells)
 
@@ -44,13 +44,13 @@ module _ (cells : List Text) (l : Lawyer) (m : l ∈ lawyers) where
   unfolding of_lawyer
   of_lawyer_lem e test = rw ((same_says (field 4 cells) l.kind).0 e) (of_each (asked test) l m)
 
-  pub kind_means : {said : Bool} {r : ℕ} → said ≡ same (field 4 cells) l.kind → said ≡ true
+  pub kind_means : {said : Bool} {r : Option ℕ} → said ≡ same (field 4 cells) l.kind → said ≡ true
       → r ≡ lawyers_field l.digits l.name cells → r ≡ broken_field PROC cells
   unfolding lawyers_number_wrong lawyers_name_too_long lawyers_field other_digits
   kind_means e t q = let s = of_lawyer_lem (sym e ∙ t) in q ∙ rw (lawyer_field cells, s, s, ← no_byte (field 5 cells))
 
 -- and where it says none of them, nothing is
 pub no_lawyers_kind : (cells : List Text) → same (field 4 cells) person.kind ≡ false → same (field 4 cells) firm.kind ≡ false
-    → same (field 4 cells) nobody.kind ≡ false → broken_field PROC cells ≡ 0
+    → same (field 4 cells) nobody.kind ≡ false → broken_field PROC cells ≡ None
 unfolding lawyers_opens some
 no_lawyers_kind cells e f g = rw (lawyer_field cells, e, f, g)

@@ -4,9 +4,10 @@ use Prim.Native.Nat.{ℕ, zero, suc, ◌+◌, ◌-◌, ◌≤◌, ◌<◌, min}
 use mathlib.Core.Path.{◌≡◌, refl, sym, ap, ◌∙◌}
 use mathlib.Core.List.{List, [], ◌∷◌, ◌++◌, map, append_assoc, append-nil}
 use native.Mathlib.Nat.{add-zero, zero-add}
+use native.Mathlib.Numerals.{sub-one}
 use native.Mathlib.Omega.{arith}
 use lib.Dec.{eqb}
-use lib.ListN.{length, get_or, drop, length-drop, length-set}
+use lib.ListN.{length, get_or, get_or-eq_default, drop, length-drop, length-set}
 use lib.Seq.{drop-drop, get_or-set_same, get_or-set_other}
 use Rattle.dirf.specs.Bytes.{Text}
 use Rattle.dirf.specs.Limits.{bar}
@@ -57,6 +58,17 @@ module _ (s : Text) (p : Places) where
   pub cell_at_lem : (i : ℕ) (d : Text) → i < min most_fields p.count → get_or (cells_at s p) i d ≡ cell_at s p i
   unfolding cells_at
   cell_at_lem i d h = from_at 0 (min most_fields p.count) i d h ∙ ap (cell_at s p) (zero-add i)
+
+  -- field k is what stands at its place, and there is none past the last
+  pub field_at : (k : ℕ) → (1 ≤ k) × (k ≤ min most_fields p.count) → cell_at s p (k - 1) ≡ field k (cells_at s p)
+  unfolding field
+  field_at zero h = absurd (omega arith)
+  field_at (suc i) h = rw sub-one (sym (cell_at_lem i [] (omega arith)))
+
+  pub no_field : (k : ℕ) → (1 ≤ k → min most_fields p.count < k) → [] ≡ field k (cells_at s p)
+  unfolding field
+  no_field zero h = refl
+  no_field (suc i) h = sym (get_or-eq_default (cells_at s p) [] (omega (arith, cells_length, h (omega arith))))
 
   -- one cell more at the end
   from_more : (i n : ℕ) → cells_from s p i (suc n) ≡ cells_from s p i n ++ (cell_at s p (i + n) ∷ [])

@@ -8,6 +8,7 @@ use Rattle.dirf.specs.Lines.{clean}
 use Rattle.fields.specs.declared.Place.{Place}
 use Rattle.fields.specs.declared.Places.{Places}
 use Rattle.fields.specs.declared.Scanned.{Scanned}
+use Rattle.fields.specs.declared.Cells.{Cells}
 
 -- the part of a text at a place; past the end there is nothing
 unfoldable pub part_of : Text → ℕ → ℕ → Text
@@ -65,6 +66,9 @@ cells_from s p i (suc n) = cell_at s p i ∷ cells_from s p (suc i) n
 
 unfoldable pub cells_at : Text → Places → List Text
 cells_at s p = cells_from s p 0 (min most_fields p.count)
+
+abbrev pub cells_of : Cells → List Text
+cells_of c = cells_at c.bytes.now c.places.now
 
 -- the key of a kind, out of fields 2 and 3
 unfoldable pub key_parts : ℕ → Text → Text → List Text

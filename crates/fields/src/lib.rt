@@ -6,10 +6,10 @@ ghost use Rattle.std.specs.List.{position};
 ghost use Rattle.dirf.specs.Bytes.{is_in, same as same_text, less as less_text};
 ghost use Rattle.dirf.specs.Kinds.{reimbursements};
 ghost use Rattle.dirf.specs.Limits.{bar};
-ghost use Rattle.dirf.specs.Lines.{is_line_end, fields as fields_of};
+ghost use Rattle.dirf.specs.Lines.{is_line_end, fields as fields_of, field};
 ghost use Rattle.dirf.specs.FieldReader.{field_there, field_of, field_start};
 ghost use Rattle.dirf.specs.Keys.{key_fields, fewer_digits_first, key_of, key_less};
-ghost use Rattle.fields.specs.Places.{part_of, no_places, add_place, place_of, scan_of, places_along, key_parts};
+ghost use Rattle.fields.specs.Places.{part_of, cells_of, no_places, add_place, place_of, scan_of, places_along, key_parts};
 
 // No record has more fields than this.
 pub const MOST_FIELDS: usize = 15;
@@ -67,6 +67,33 @@ pub fn part(s: &[u8], start: usize, len: usize) -> &[u8]
 {
     let rest = &s[start.min(s.len())..];
     &rest[..len.min(rest.len())]
+}
+
+// The fields of a record: some bytes, and where the fields stand in them.
+#[derive(Clone, Copy)]
+pub struct Cells<'a> {
+    pub bytes: &'a [u8],
+    pub places: &'a Places,
+}
+
+impl<'a> Cells<'a> {
+    // Field k, from 1, as a part of the bytes; empty where there is none.
+    pub fn field(self, k: usize) -> &'a [u8]
+        ensures { result.now ≡ field k (cells_of self.entry) }
+    {
+        if k == 0 || self.places.count < k || MOST_FIELDS < k {
+            return &self.bytes[..0];
+        }
+        let Place { start, len } = self.places.first[k - 1];
+        part(self.bytes, start, len)
+    }
+
+    // Whether field k holds this text.
+    pub fn says(self, k: usize, text: &[u8]) -> bool
+        ensures { result ≡ same_text (field k (cells_of self.entry)) text.now }
+    {
+        same(self.field(k), text)
+    }
 }
 
 // Byte for byte, case kept.
