@@ -1,7 +1,9 @@
 -- A test of every byte: of one byte, and of a part.
 use Prim.Native.Nat.{ℕ, ◌<◌}
-use mathlib.Core.Path.{◌≡◌, sym, ap, ◌∙◌}
-use mathlib.Core.Bool.{Bool, true}
+use mathlib.Core.Path.{◌≡◌, refl, sym, ap, ◌∙◌}
+use mathlib.Core.Bool.{Bool, true, ◌&&◌}
+use mathlib.Core.List.{[], ◌∷◌}
+use Rattle.std.specs.List.{list_all}
 use lib.ListN.{length, get_or, take, drop, take-append-drop}
 use Rattle.dirf.specs.Bytes.{Text, every}
 use Rattle.dirf.proofs.tests.Bools.{and_left, and_right}
@@ -21,3 +23,9 @@ module _ (test : ℕ → Bool) (s : Text) (i : ℕ) where
 pub every_part : (test : ℕ → Bool) (s : Text) (start len : ℕ) → every test s ≡ true → every test (part_of s start len) ≡ true
 unfolding part_of
 every_part test s start len e = (every_cut test (drop start s) len (every_cut test s start e).1).0
+
+-- the library's word
+pub every_all : (test : ℕ → Bool) (s : Text) → every test s ≡ list_all test s
+unfolding every
+every_all test [] = refl
+every_all test (b ∷ s) = ap (λ t. test b && t) (every_all test s)

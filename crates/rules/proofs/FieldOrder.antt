@@ -1,14 +1,14 @@
 -- 13 to 18 and 26 of one field, in the order in which the code asks them.
 use Rattle.std.specs.Prelude.{if◌then◌else◌}
 use Prim.Native.Nat.{ℕ, ◌≤◌}
-use mathlib.Core.Path.{◌≡◌, refl}
+use mathlib.Core.Path.{◌≡◌, refl, ◌∙◌}
 use mathlib.Core.Bool.{Bool, true, false, ◌&&◌, not, and-true, and-false}
 use mathlib.Core.List.{[], ◌∷◌}
 use native.Mathlib.Omega.{arith}
 use native.Mathlib.Nat.{le_trans}
-use lib.Dec.{ltb}
-use lib.ListN.{length}
-use borrow.Author.Tests.{not-false}
+use lib.Dec.{eqb, leb, ltb}
+use lib.ListN.{length, get_or}
+use borrow.Author.Tests.{not-false, le-leb}
 use Rattle.dirf.specs.Bytes.{Text, every, is_digit, is_empty, begins_with}
 use Rattle.dirf.specs.Row.{Row, N}
 use Rattle.dirf.specs.Numbers.{is_date}
@@ -19,7 +19,10 @@ use Rattle.dirf.specs.Rules.{Found, keeps, given, or_else, ask_field}
 use Rattle.dirf.proofs.tests.Lists.{listed}
 use Rattle.dirf.proofs.rules.Asked.{field_kept, field_passes, nothing_found}
 use Rattle.dirf.proofs.back.KeptFields.{within_size}
-use Rattle.rules.specs.Findings.{number_of}
+use Rattle.layout.specs.declared.Row.{Row as Codes}
+use Rattle.layout.specs.Tables.{need_of, row_of}
+use Rattle.layout.specs.Codes.{row_said}
+use Rattle.rules.specs.Findings.{number_of, FilledRight}
 
 step : (n f : ℕ) (t : Bool) (later : Found) → number_of (or_else (given n f t) later) ≡ (if t then n else number_of later)
 unfolding number_of given or_else
@@ -70,3 +73,20 @@ unfolding byte_of_the_wrong_kind right_byte field_order
 kept_digits r s n l k =
     let digits = not-false (every (right_byte r.format) s) (field_kept 0 [] r s 14 byte_of_the_wrong_kind (search listed) k) in
     (rw n at digits, le_trans (within_size [] r s (field_kept 0 [] r s 15 wrong_size (search listed) k)) l)
+
+pub front_lem : (b : ℕ) (s : Text) → begins_with b s ≡ (leb 1 (length s) && eqb (get_or s 0 0) b)
+unfolding begins_with
+front_lem b [] = refl
+front_lem b (d ∷ s) = rw (le-leb 1 (length (d ∷ s)) (omega arith))
+
+-- the number by the tests that are left, of a field that is filled with right bytes
+pub filled_is : (name : Text) (row : Codes) (s : Text) → FilledRight s row
+    → number_of (ask_field 0 field_order name (row_said row) s)
+    ≡ (let r = row_said row in ruled true (right_size r s) (zero_first r s) (no_date r s) (valid name r.holds s) (digits_held r.holds s))
+unfolding ruled row_said row_of
+filled_is name row s f = filled_number name (row_said row) s (λ e. omega (arith, f.filled)) ∙ rw f.bytes
+
+-- to compute what the codes of a row say
+unfoldable pub codes_open : Unit {0}
+unfolding is_obligatory need_of row_of row_said
+codes_open = tt

@@ -1,28 +1,27 @@
 -- What is found in a record's fields: what a finding is made of, field by field, and of a broken condition.
-use Rattle.std.specs.Prelude.{if◌then◌else◌}
+use Rattle.std.specs.Prelude.{Option, Some, None}
 use Prim.Native.Nat.{ℕ, suc, ◌+◌, ◌≤◌, ◌<◌}
 use mathlib.Core.Path.{◌≡◌, refl, sym, ◌∙◌}
-use mathlib.Core.Logic.{◌≢◌}
 use mathlib.Core.Bool.{Bool, true, false, ◌&&◌}
 use mathlib.Core.List.{List, [], ◌∷◌}
 use native.Mathlib.Omega.{arith}
 use native.Mathlib.Numerals.{add-one}
-use lib.Dec.{eqb, ltb}
 use lib.ListN.{length, get_or, drop, drop_of_length-le}
 use lib.Seq.{drop-cons}
-use borrow.Author.Tests.{ne_eqb, ltb-true}
-use Rattle.dirf.specs.Bytes.{Text, every, is_in}
+use Rattle.dirf.specs.Bytes.{Text, is_in}
+use Rattle.dirf.specs.Lines.{field}
 use Rattle.dirf.specs.Row.{Row}
 use Rattle.dirf.specs.Fields.{FieldRule, field_order}
-use Rattle.dirf.specs.Conditions.{Condition, condition_order}
+use Rattle.dirf.specs.Conditions.{Condition}
 use Rattle.dirf.specs.Rules.{Found, keeps, breaks, given, or_else, ask_field, ask_fields, ask_conditions}
-use Rattle.dirf.proofs.tests.Bools.{and_left, and_right}
-use Rattle.conditions.specs.Broken.{field_of, broken_field}
+use Rattle.conditions.specs.Broken.{field_of}
 use Rattle.layout.specs.Tables.{count_in, rows_in}
 use Rattle.layout.specs.Codes.{row_codes, row_said}
 use Rattle.layout.proofs.Laws.{row_said_lem, rows_length, rows_at}
-use Rattle.rules.specs.declared.Finding.{Finding}
-use Rattle.rules.specs.Findings.{number_of, finding_of}
+use Rattle.rules.specs.Findings.{number_of}
+use Rattle.refusals.specs.declared.Refusal.{Refusal}
+use Rattle.refusals.specs.Numbers.{number_for}
+use Rattle.refusals.proofs.Numbers.{at_least_1}
 use Rattle.rules.proofs.FieldOrder.{nothing}
 
 -- a rule of field 0, named for another field
@@ -67,11 +66,6 @@ module _ (xs : List FieldRule) (name : Text) where
 abbrev pub fields_from : List ℕ → ℕ → Text → List Text → ℕ → Found
 fields_from t k name cells i = ask_fields (i + 1) field_order name (drop i (rows_in t k)) (drop i cells)
 
--- n is asked of field i + 1: a number is what is found, and 0 leaves it to the next field
-abbrev pub FieldFound : List ℕ → ℕ → Text → List Text → ℕ → ℕ → Type 0
-FieldFound t k name cells i n =
-    (n ≢ 0 → fields_from t k name cells i ≡ breaks n (i + 1)) × (n ≡ 0 → fields_from t k name cells i ≡ fields_from t k name cells (i + 1))
-
 -- the codes of its row are asked
 module _ (t : List ℕ) (k : ℕ) (name : Text) (cells : List Text) (i : ℕ) (h : i < count_in t k) (l : i < length cells) where
   abbrev row : Row
@@ -83,33 +77,37 @@ module _ (t : List ℕ) (k : ℕ) (name : Text) (cells : List Text) (i : ℕ) (h
       fields_on field_order name (rows_in t k) cells i row (omega (arith, rows_length t k)) l
       ∙ rw (rows_at t k i row h, ← row_said_lem t k i h, ask_placed (i + 1) field_order name row (get_or cells i []))
 
-  pub field_found : {n : ℕ} → n ≡ number_of (ask_field 0 field_order name row (get_or cells i [])) → FieldFound t k name cells i n
-  unfolding or_else placed
-  field_found e = (
-    λ z. here ∙ rw (placed_break (i + 1) (ask_field 0 field_order name row (get_or cells i [])) e z),
-    λ z. here ∙ rw (nothing name row (get_or cells i []) (sym e ∙ z)),
-  )
+  -- a refusal is what is found, at field i + 1
+  pub found_here : (r : Refusal) → number_for r ≡ number_of (ask_field 0 field_order name row (field (i + 1) cells))
+      → breaks (number_for r) (i + 1) ≡ fields_from t k name cells i
+  unfolding or_else placed field
+  found_here r e =
+      let e = rw add-one at e in
+      sym (here ∙ rw (placed_break (i + 1) (ask_field 0 field_order name row (get_or cells i [])) e (λ z. omega (arith, at_least_1 r))))
 
--- a finding of 19, by its field
-unfoldable pub at19 : ℕ → Finding
-at19 f = if eqb f 0 then record { number = 0; field = 0 } else record { number = 19; field = f }
+  -- and none leaves it to the next field
+  pub none_here : 0 ≡ number_of (ask_field 0 field_order name row (field (i + 1) cells))
+      → fields_from t k name cells i ≡ fields_from t k name cells (i + 1)
+  unfolding or_else placed field
+  none_here e = let e = rw add-one at e in here ∙ rw (nothing name row (get_or cells i []) (sym e))
 
--- a condition finds nothing, or its field, which is not 0
-or_at19 : (f : ℕ) (t : Bool) (later : Found) → 0 < f → finding_of later ≡ at19 (field_of later)
-    → finding_of (or_else (given 19 f t) later) ≡ at19 (field_of (or_else (given 19 f t) later))
-unfolding given or_else finding_of field_of at19
-or_at19 f true later h e = rw (ne_eqb f 0 (λ z. omega (arith, h, z)))
-or_at19 f false later h e = e
+-- past the last row, and past the last cell, nothing is found
+pub past_rows : (t : List ℕ) (k : ℕ) (name : Text) (cells : List Text) (i : ℕ) → count_in t k ≤ i → fields_from t k name cells i ≡ keeps
+unfolding ask_fields
+past_rows t k name cells i h = rw (drop_of_length-le (rows_in t k) {i = i} (omega (arith, rows_length t k, h)))
 
-module _ (k : ℕ) (cells : List Text) where
-  all_at19 : (xs : List Condition) → every (λ x. ltb 0 x.field) xs ≡ true
-      → finding_of (ask_conditions 19 xs k cells) ≡ at19 (field_of (ask_conditions 19 xs k cells))
-  unfolding every ask_conditions finding_of field_of at19
-  all_at19 [] e = refl
-  all_at19 (x ∷ xs) e =
-      or_at19 x.field (is_in k x.kinds && x.broken cells) (ask_conditions 19 xs k cells)
-      (ltb-true 0 x.field (and_left (ltb 0 x.field) _ e)) (all_at19 xs (and_right (ltb 0 x.field) _ e))
+-- what conditions find is named 19, at the field of the first that is broken
+unfoldable pub named : Option ℕ → Found
+named None = keeps
+named (Some f) = breaks 19 f
 
-  pub conditions_19 : finding_of (ask_conditions 19 condition_order k cells) ≡ at19 (broken_field k cells)
-  unfolding every condition_order broken_field
-  conditions_19 = all_at19 condition_order refl
+or_named : (f : ℕ) (t : Bool) {later : Found} → later ≡ named (field_of later)
+    → or_else (given 19 f t) later ≡ named (field_of (or_else (given 19 f t) later))
+unfolding given or_else named field_of
+or_named f true e = refl
+or_named f false e = e
+
+pub at19 : (xs : List Condition) (k : ℕ) (cells : List Text) → ask_conditions 19 xs k cells ≡ named (field_of (ask_conditions 19 xs k cells))
+unfolding ask_conditions named field_of
+at19 [] k cells = refl
+at19 (x ∷ xs) k cells = or_named x.field (is_in k x.kinds && x.broken cells) (at19 xs k cells)

@@ -2,8 +2,8 @@ pub mod Every
 pub mod Values
 pub mod Letters
 pub mod FieldOrder
-pub mod Readings
 pub mod Findings
 pub mod Laws
+pub mod Readings
 pub mod Marked
 pub mod Determined

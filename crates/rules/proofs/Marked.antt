@@ -12,7 +12,8 @@ use Rattle.dirf.proofs.tests.Lists.{Each, none, ◌also◌, of_each}
 use Rattle.layout.specs.declared.Row.{Row}
 use Rattle.layout.specs.Tables.{format_of, fill_of, need_of, holds_of, row_of}
 use Rattle.layout.specs.Codes.{row_said}
-use Rattle.rules.specs.Findings.{number_of, amount_says}
+use Rattle.rules.specs.Findings.{number_of, reading_said}
+use Rattle.refusals.specs.Numbers.{number_said}
 use Rattle.rules.proofs as rules
 
 -- M9 and M10: a field, and the number and the value that the amount reader answers
@@ -29,8 +30,8 @@ unfolding bytes_opens numbers_opens fields_opens rules_opens amounts_opens
 answers = refl also refl also refl also refl also none
 
 pub amounts_marked : (κs : _) (a : _) (r : _) (s : _) → rules.read_amount.Reads.Post κs a r s → (x : Text × Reading) → x ∈ amounts
-    → a.0.now ≡ x.0 → amount_says r ≡ x.1
-amounts_marked κs a r s e x m f = e.0 ∙ ap read_amount f ∙ of_each answers x m
+    → a.0.now ≡ x.0 → reading_said (λ c. c.0) r ≡ x.1
+amounts_marked κs a r s e x m f = e ∙ ap read_amount f ∙ of_each answers x m
 
 -- M11 and M12: a row, a field and the number given: field 9 of DECPF, a date, and field 4 of RESPO, an area code
 abbrev pub date_row : Row
@@ -47,7 +48,7 @@ unfolding bytes_opens numbers_opens fields_opens rules_opens format_of fill_of n
 given name = refl also refl also refl also none
 
 pub numbers_marked : (κs : _) (a : _) (r : _) (s : _) → rules.field_rule.Reads.Post κs a r s → (x : (Row × Text) × ℕ) → x ∈ numbers
-    → a.1.1.0 ≡ x.0.0 → a.1.0.now ≡ x.0.1 → r ≡ x.1
+    → a.1.1.0 ≡ x.0.0 → a.1.0.now ≡ x.0.1 → number_said r ≡ x.1
 numbers_marked κs a r s e x m f g =
     e ∙ ap (λ y. number_of (ask_field 0 field_order a.0.now (row_said y) a.1.0.now)) f
     ∙ ap (λ t. number_of (ask_field 0 field_order a.0.now (row_said x.0.0) t)) g ∙ of_each (given a.0.now) x m

@@ -1,15 +1,16 @@
 -- The value of digits: a digit at a time, how large it is, and that a day of any size may be capped.
 use Rattle.std.specs.Prelude.{if◌then◌else◌}
-use Prim.Native.Nat.{ℕ, suc, ◌+◌, ◌-◌, ◌*◌, ◌^◌, ◌≤◌, ◌<◌, min}
-use mathlib.Core.Path.{◌≡◌, refl, sym}
-use mathlib.Core.Bool.{Bool, true}
+use Prim.Native.Nat.{ℕ, zero, suc, ◌+◌, ◌-◌, ◌*◌, ◌^◌, ◌≤◌, ◌<◌, min}
+use mathlib.Core.Path.{◌≡◌, refl}
+use mathlib.Core.Bool.{Bool, true, ◌&&◌}
 use mathlib.Core.List.{List, [], ◌∷◌}
 use native.Mathlib.Nat.{lt_of_lt_of_le, pow-le-pow_right, min-eq_left, min-eq_right}
 use native.Mathlib.Omega.{arith}
-use lib.Dec.{leb}
-use lib.ListN.{length, drop, drop_of_length-le, get_or-eq_default}
+use lib.Dec.{eqb, leb}
+use lib.ListN.{length, drop, drop_of_length-le}
+use Rattle.std.proofs.lemmas.Bool.Decides.{nat_tests}
 use borrow.Author.Tests.{leb-true, le-leb, lt-leb}
-use Rattle.dirf.specs.Bytes.{Text, every, is_digit}
+use Rattle.dirf.specs.Bytes.{Text, every, is_in, is_digit, bytes_opens}
 use Rattle.dirf.specs.Numbers.{value_after, value_of, is_leap, days_in, is_day}
 use Rattle.dirf.proofs.tests.Bools.{and_left, and_right, by_answer}
 use Rattle.dirf.proofs.tests.Lists.{every_at}
@@ -40,9 +41,26 @@ uncapped s e l = let h = small_after 0 0 s (omega arith) (omega arith) e in min-
 abbrev lengths : Bool → List ℕ
 lengths leap = 0 ∷ 31 ∷ (if leap then 29 else 28) ∷ 31 ∷ 30 ∷ 31 ∷ 30 ∷ 31 ∷ 31 ∷ 30 ∷ 31 ∷ 30 ∷ 31 ∷ []
 
-pub no_month : (y m : ℕ) → 13 ≤ m → 0 ≡ days_in y m
-unfolding days_in
-no_month y m h = sym (get_or-eq_default (lengths (is_leap y)) 0 h)
+-- month by month
+pub days_lem : (y m : ℕ)
+    → days_in y m
+    ≡ (if eqb m 2 then (if is_leap y then 29 else 28)
+    else (if is_in m (4 ∷ 6 ∷ 9 ∷ 11 ∷ []) then 30 else (if leb 1 m && leb m 12 then 31 else 0)))
+unfolding days_in bytes_opens
+days_lem y zero = refl
+days_lem y (suc zero) = refl
+days_lem y (suc (suc zero)) = refl
+days_lem y (suc (suc (suc zero))) = refl
+days_lem y (suc (suc (suc (suc zero)))) = refl
+days_lem y (suc (suc (suc (suc (suc zero))))) = refl
+days_lem y (suc (suc (suc (suc (suc (suc zero)))))) = refl
+days_lem y (suc (suc (suc (suc (suc (suc (suc zero))))))) = refl
+days_lem y (suc (suc (suc (suc (suc (suc (suc (suc zero)))))))) = refl
+days_lem y (suc (suc (suc (suc (suc (suc (suc (suc (suc zero))))))))) = refl
+days_lem y (suc (suc (suc (suc (suc (suc (suc (suc (suc (suc zero)))))))))) = refl
+days_lem y (suc (suc (suc (suc (suc (suc (suc (suc (suc (suc (suc zero))))))))))) = refl
+days_lem y (suc (suc (suc (suc (suc (suc (suc (suc (suc (suc (suc (suc zero)))))))))))) = refl
+days_lem y (suc (suc (suc (suc (suc (suc (suc (suc (suc (suc (suc (suc (suc m))))))))))))) = grind (arith, nat_tests)
 
 days_most : (y m : ℕ) → days_in y m ≤ 31
 unfolding every days_in

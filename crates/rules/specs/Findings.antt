@@ -1,5 +1,5 @@
 -- What is found in a record's fields, as the code answers it.
-use Rattle.std.specs.Prelude.{ℕ, ◌≤◌, ◌≡◌, Bool, true, List, [], ◌∷◌, length}
+use Rattle.std.specs.Prelude.{ℕ, ◌≤◌, ◌≡◌, Bool, true, Result, Ok, Err, List, [], ◌∷◌, length}
 use Rattle.dirf.specs.Bytes.{Text, every, is_in, lookup}
 use Rattle.dirf.specs.Row.{Row as FieldRow}
 use Rattle.dirf.specs.Fields.{right_byte}
@@ -8,21 +8,13 @@ use Rattle.dirf.specs.Order.{contents}
 use Rattle.dirf.specs.Amounts.{Reading}
 use Rattle.layout.specs.Tables.{format_of}
 use Rattle.layout.specs.declared.Row.{Row}
-use Rattle.rules.specs.declared.Finding.{Finding}
-use Rattle.rules.specs.declared.NumberRead.{NumberRead}
-use Rattle.rules.specs.declared.AmountRead.{AmountRead}
-use Rattle.rules.specs.declared.AmountRead.TheVariants as amount
-use Rattle.rules.specs.declared.MonthRead.{MonthRead}
-use Rattle.rules.specs.declared.MonthRead.TheVariants as month
+use Rattle.refusals.specs.declared.Refusal.{Refusal}
+use Rattle.refusals.specs.Numbers.{number_for}
 
 -- 0 where a rule is kept
 unfoldable pub number_of : Found → ℕ
 number_of keeps = 0
 number_of (breaks number field) = number
-
-unfoldable pub finding_of : Found → Finding
-finding_of keeps = record { number = 0; field = 0 }
-finding_of (breaks number field) = record { number = number; field = field }
 
 -- 13 to 18 and 26 field by field, then 19: of a kind, its identifier, its rows and the fields' contents
 unfoldable pub contents_found : ℕ → Text → List FieldRow → List Text → Found
@@ -51,15 +43,8 @@ pub record FilledRight (s : Text) (r : Row) : Type 0 where
   pub filled : 1 ≤ length s
   pub bytes : every (right_byte (format_of r.format)) s ≡ true
 
-unfoldable pub number_read : Reading → NumberRead
-number_read r = record { number = r.number; value = r.value }
-
 -- 01: "Where an answer is an enum, a definition gives this paper's number and values for each of its cases." A value has number 0, and
--- the readers "refuse with 14, 15 or 16 .., value 0"
-abbrev pub amount_says : AmountRead → Reading
-amount_says (amount.Value c) = record { number = 0; value = c.0 }
-amount_says (amount.Refused n) = record { number = n; value = 0 }
-
-abbrev pub month_says : MonthRead → Reading
-month_says (month.Value m) = record { number = 0; value = m.0 }
-month_says (month.Refused n) = record { number = n; value = 0 }
+-- the readers "refuse with 14, 15 or 16 .., value 0". What is read is a number of some unit
+abbrev pub reading_said : {A : Type 0} → (A → ℕ) → Result A Refusal → Reading
+reading_said value (Ok a) = record { number = 0; value = value a }
+reading_said value (Err r) = record { number = number_for r; value = 0 }

@@ -2,6 +2,7 @@
 #![tactic(auto)]
 
 ghost use Rattle.std.specs.Prelude.{◌≡◌, true, ◌&&◌, not, [], ◌∷◌, ◌≤◌, ◌^◌, min, length};
+ghost use Rattle.std.specs.List.{list_all};
 ghost use Rattle.dirf.specs.Bytes.{every, some, is_digit, begins_with, same};
 ghost use Rattle.dirf.specs.Row.{N, variable};
 ghost use Rattle.dirf.specs.Layout.{relation};
@@ -10,21 +11,15 @@ ghost use Rattle.dirf.specs.Fields.{right_byte, fills_to, size_held, takes_no_ze
 ghost use Rattle.dirf.specs.Conditions.{condition_order};
 ghost use Rattle.dirf.specs.Rules.{ask_field, ask_conditions};
 ghost use Rattle.dirf.specs.Amounts.{read_number, read_amount, read_months};
-ghost use Rattle.fields.specs.Places.{cells_at};
+ghost use Rattle.fields.specs.Places.{cells_of};
+ghost use Rattle.refusals.specs.Numbers.{number_said, found_said};
 ghost use Rattle.layout.specs.Tables.{format_of, fill_of, holds_of, rows_in};
 ghost use Rattle.layout.specs.Codes.{row_said};
-ghost use Rattle.rules.specs.Findings.{number_of, finding_of, contents_found, only_byte, amount_says, month_says};
-ghost use Rattle.rules.specs.Findings.{letter_of, FilledRight, number_read};
+ghost use Rattle.rules.specs.Findings.{number_of, contents_found, only_byte, letter_of, FilledRight, reading_said};
 
-use fields::Places;
+use fields::Cells;
 use layout::Row;
-
-// A number and a field: the first breach of a record's fields, 0 and 0 where there is none.
-#[derive(Clone, Copy)]
-pub struct Finding {
-    pub number: u32,
-    pub field: u32,
-}
+use refusals::{Breach, Refusal};
 
 // Centavos and tenths of a month are never taken for each other.
 #[derive(Clone, Copy)]
@@ -33,109 +28,70 @@ pub struct Centavos(pub u64);
 #[derive(Clone, Copy)]
 pub struct MonthTenths(pub u64);
 
-#[derive(Clone, Copy)]
-pub enum AmountRead {
-    Value(Centavos),
-    Refused(u32),
-}
+// The rows that say what an amount and a month count are.
+const AMOUNT: Row = Row {
+    format: b'N',
+    fill: b'V',
+    size: 13,
+    need: b'N',
+    holds: b'a',
+};
 
-#[derive(Clone, Copy)]
-pub enum MonthRead {
-    Value(MonthTenths),
-    Refused(u32),
-}
-
-// A number read, or refused with value 0.
-#[derive(Clone, Copy)]
-struct NumberRead {
-    number: u32,
-    value: u64,
-}
-
-fn wide(x: u8) -> u64
-    ensures { result ≡ x }
-{
-    x as u64
-}
+const MONTHS: Row = Row {
+    format: b'N',
+    fill: b'V',
+    size: 4,
+    need: b'N',
+    holds: b'm',
+};
 
 // A byte of the right kind: digits for N and D; no bar, CR or LF for C.
+#[tactic(auto, using(std::proofs::lemmas::Bool::Decides::nat_tests), unfolding(dirf::specs::Bytes::bytes_opens, dirf::specs::Fields::right_byte, layout::specs::Tables::format_of))]
 fn right_byte(format: u8, b: u8) -> bool
     ensures { result ≡ right_byte (format_of format) b }
 {
     match format {
-        b'N' | b'D' => is_digit(b),
-        _ => match b {
-            10 | 13 | 124 => false,
-            _ => true,
-        },
+        b'N' | b'D' => b.is_ascii_digit(),
+        _ => !matches!(b, b'\n' | b'\r' | b'|'),
     }
-}
-
-fn is_digit(b: u8) -> bool
-    ensures { result ≡ is_digit b }
-{
-    if b < 48 {
-        return false;
-    }
-    b <= 57
 }
 
 // 14: every byte of the right kind.
 fn right_bytes(format: u8, s: &[u8]) -> bool
-    ensures { result ≡ every (right_byte (format_of format)) s.now }
+    ensures { result ≡ list_all (right_byte (format_of format)) s.now }
 {
-    let mut i = 0;
-    while i < s.len() {
-        if !right_byte(format, s[i]) {
-            return false;
-        }
-        i += 1;
-    }
-    true
+    s.iter().all(|b| right_byte(format, *b))
 }
 
+#[tactic(auto, using(std::proofs::lemmas::Bool::Decides::nat_tests), unfolding(dirf::specs::Bytes::bytes_opens, dirf::specs::Fields::size_held, layout::specs::Tables::holds_of))]
 fn size_held(holds: u8, n: usize) -> bool
     ensures { result ≡ size_held (holds_of holds) n }
 {
     match holds {
-        b't' => match n {
-            8..=9 => true,
-            _ => false,
-        },
-        b'e' => match n {
-            11 | 14 => true,
-            _ => false,
-        },
+        b't' => n == 8 || n == 9,
+        b'e' => n == 11 || n == 14,
         _ => true,
     }
 }
 
+#[tactic(auto, using(std::proofs::lemmas::Bool::Decides::nat_tests), unfolding(dirf::specs::Fields::fills_to, layout::specs::Tables::fill_of))]
 fn right_size(row: Row, n: usize) -> bool
     ensures { result ≡ (fills_to (fill_of row.fill) row.size n && size_held (holds_of row.holds) n) }
 {
-    let size = row.size as usize;
-    if row.fill == b'F' {
-        if n != size {
-            return false;
-        }
-        return size_held(row.holds, n);
-    }
-    if n < 1 {
-        return false;
-    }
-    if size < n {
-        return false;
-    }
-    size_held(row.holds, n)
+    let size = usize::from(row.size);
+    let fills = if row.fill == b'F' {
+        n == size
+    } else {
+        1 <= n && n <= size
+    };
+    fills && size_held(row.holds, n)
 }
 
+#[tactic(auto, using(std::proofs::lemmas::Bool::Decides::nat_tests), unfolding(dirf::specs::Bytes::bytes_opens, dirf::specs::Fields::takes_no_zero, layout::specs::Tables::holds_of))]
 fn takes_no_zero(holds: u8) -> bool
     ensures { result ≡ takes_no_zero (holds_of holds) }
 {
-    match holds {
-        b'a' | b'd' | b'm' => true,
-        _ => false,
-    }
+    matches!(holds, b'a' | b'd' | b'm')
 }
 
 // The value of digits, however many: from 10^18 on it is 10^18, so that it fits.
@@ -144,13 +100,11 @@ fn capped(s: &[u8]) -> u64
     ensures { result ≡ min (10 ^ 18) (value_of s.now) }
 {
     let mut n: u64 = 0;
-    let mut i = 0;
-    while i < s.len() {
-        n = n * 10 + (wide(s[i]) - 48);
+    for &b in s {
+        n = n * 10 + u64::from(b - b'0');
         if 1000000000000000000 <= n {
             return 1000000000000000000;
         }
-        i += 1;
     }
     n
 }
@@ -163,43 +117,31 @@ fn value(s: &[u8]) -> u64
     capped(s)
 }
 
+#[tactic(auto, using(std::proofs::lemmas::Bool::Decides::nat_tests), unfolding(dirf::specs::Numbers::is_leap))]
 fn is_leap(y: u64) -> bool
     ensures { result ≡ is_leap y }
 {
-    if y % 4 != 0 {
-        return false;
-    }
-    if y % 100 != 0 {
-        return true;
-    }
-    y % 400 == 0
+    y % 4 == 0 && (y % 100 != 0 || y % 400 == 0)
 }
 
+#[tactic(auto, using(crate::proofs::Values::days_lem, std::proofs::lemmas::Bool::Decides::nat_tests), unfolding(dirf::specs::Bytes::bytes_opens))]
 fn days_in(y: u64, m: u64) -> u64
     ensures { result ≡ days_in y m }
 {
     match m {
-        2 => { if is_leap(y) { 29 } else { 28 } }
+        2 if is_leap(y) => 29,
+        2 => 28,
         4 | 6 | 9 | 11 => 30,
-        1 | 3 | 5 | 10 | 12 => 31,
-        7..=8 => 31,
+        1..=12 => 31,
         _ => 0,
     }
 }
 
+#[tactic(auto, using(std::proofs::lemmas::Bool::Decides::nat_tests), unfolding(dirf::specs::Numbers::is_day))]
 fn is_day(y: u64, m: u64, d: u64) -> bool
     ensures { result ≡ is_day y m d }
 {
-    if y < 1900 {
-        return false;
-    }
-    if 2099 < y {
-        return false;
-    }
-    if d < 1 {
-        return false;
-    }
-    d <= days_in(y, m)
+    1900 <= y && y <= 2099 && 1 <= d && d <= days_in(y, m)
 }
 
 // Year, month and day, of however many digits: a row may have any size.
@@ -214,36 +156,30 @@ fn is_date(s: &[u8]) -> bool
 }
 
 // 17: no date where there has to be one.
+#[tactic(auto, using(std::proofs::lemmas::Bool::Decides::nat_tests), unfolding(dirf::specs::Fields::dated, layout::specs::Tables::format_of))]
 fn no_such_date(format: u8, s: &[u8]) -> bool
     requires { every (right_byte (format_of format)) s.now ≡ true }
     ensures { result ≡ (dated (format_of format) && not (is_date s.now)) }
 {
-    if format != b'D' {
-        return false;
-    }
-    !is_date(s)
+    format == b'D' && !is_date(s)
 }
 
 // 16: a zero in front where there may be none.
+#[tactic(auto, using(crate::proofs::FieldOrder::front_lem, std::proofs::lemmas::Bool::Decides::nat_tests))]
 fn zero_in_front(holds: u8, s: &[u8]) -> bool
     ensures { result ≡ (takes_no_zero (holds_of holds) && begins_with 48 s.now) }
 {
-    if s.len() == 0 {
-        return false;
-    }
-    if s[0] != 48 {
-        return false;
-    }
-    takes_no_zero(holds)
+    matches!(s, [b'0', ..]) && takes_no_zero(holds)
 }
 
+#[tactic(auto, using(crate::proofs::Letters::only_lem, std::proofs::lemmas::Bool::Decides::nat_tests))]
 fn only_byte(s: &[u8]) -> u8
     ensures { result ≡ only_byte s.now }
 {
-    if s.len() == 1 {
-        return s[0];
+    match s {
+        [b] => *b,
+        _ => 0,
     }
-    0
 }
 
 // One of the printed values, or the record's own identifier.
@@ -264,26 +200,19 @@ fn is_valid(name: &[u8], holds: u8, s: &[u8]) -> bool
 }
 
 // One text or another.
+#[tactic(auto, unfolding(dirf::specs::Bytes::bytes_opens))]
 fn is_either(s: &[u8], a: &[u8], b: &[u8]) -> bool
     ensures { result ≡ some (same s.now) (a.now ∷ b.now ∷ []) }
 {
-    if fields::same(s, a) {
-        return true;
-    }
-    fields::same(s, b)
+    fields::same(s, a) || fields::same(s, b)
 }
 
 // How a dependant is related to the person: spouse, child, stepchild, parent, other.
+#[tactic(auto, using(crate::proofs::Letters::relation_lem))]
 fn is_relation(s: &[u8]) -> bool
     ensures { result ≡ valid [] relation s.now }
 {
-    if is_either(s, b"03", b"04") {
-        return true;
-    }
-    if is_either(s, b"06", b"08") {
-        return true;
-    }
-    fields::same(s, b"10")
+    is_either(s, b"03", b"04") || is_either(s, b"06", b"08") || fields::same(s, b"10")
 }
 
 // One of the printed values of one byte.
@@ -293,31 +222,16 @@ fn is_letter(holds: u8, s: &[u8]) -> bool
     is_printed(holds, only_byte(s))
 }
 
+#[tactic(auto, using(std::proofs::lemmas::Bool::Decides::nat_tests), unfolding(dirf::specs::Bytes::bytes_opens, crate::specs::Findings::only_byte, crate::specs::Findings::letter_of))]
 fn is_printed(holds: u8, b: u8) -> bool
     ensures { result ≡ letter_of holds (b ∷ []) }
 {
     match holds {
-        b's' => match b {
-            b'N' | b'S' => true,
-            _ => false,
-        },
-        b'1' => match b {
-            48..=49 => true,
-            _ => false,
-        },
-        b'2' => match b {
-            49..=50 => true,
-            _ => false,
-        },
-        b'3' => match b {
-            49..=51 => true,
-            _ => false,
-        },
-        b'8' => match b {
-            48..=52 => true,
-            56 => true,
-            _ => false,
-        },
+        b's' => matches!(b, b'N' | b'S'),
+        b'1' => matches!(b, b'0' | b'1'),
+        b'2' => matches!(b, b'1' | b'2'),
+        b'3' => matches!(b, b'1' | b'2' | b'3'),
+        b'8' => matches!(b, b'0' | b'1' | b'2' | b'3' | b'4' | b'8'),
         _ => true,
     }
 }
@@ -335,144 +249,102 @@ fn digits_held(holds: u8, s: &[u8]) -> bool
 }
 
 // 15 to 18, then 26, of a field that is filled and whose bytes are of the right kind.
-fn filled_rule(name: &[u8], s: &[u8], row: Row) -> u32
+#[tactic(auto, using(crate::proofs::FieldOrder::filled_is), unfolding(crate::proofs::FieldOrder::ruled, crate::proofs::FieldOrder::codes_open))]
+fn filled_rule(name: &[u8], s: &[u8], row: Row) -> Result<(), Refusal>
     requires { FilledRight s.now row }
-    ensures { result ≡ number_of (ask_field 0 field_order name.now (row_said row) s.now) }
+    ensures { number_said result ≡ number_of (ask_field 0 field_order name.now (row_said row) s.now) }
 {
     if !right_size(row, s.len()) {
-        return 15;
+        return Err(Refusal::WrongSize);
     }
     if zero_in_front(row.holds, s) {
-        return 16;
+        return Err(Refusal::ZeroInFront);
     }
     if no_such_date(row.format, s) {
-        return 17;
+        return Err(Refusal::NoSuchDate);
     }
     if !is_valid(name, row.holds, s) {
-        return 18;
+        return Err(Refusal::NotAValidValue);
     }
     if !digits_held(row.holds, s) {
-        return 26;
+        return Err(Refusal::WrongCheckDigit);
     }
-    0
+    Ok(())
 }
 
-// The first of 13 to 18 and 26 that a field breaks, 0 where it breaks none.
-pub fn field_rule(name: &[u8], s: &[u8], row: Row) -> u32
-    ensures { result ≡ number_of (ask_field 0 field_order name.now (row_said row) s.now) }
+// The first of 13 to 18 and 26 that a field breaks.
+#[tactic(auto, using(crate::proofs::FieldOrder::empty_number, crate::proofs::FieldOrder::filled_number, crate::proofs::Every::every_all), unfolding(crate::proofs::FieldOrder::ruled, crate::proofs::FieldOrder::codes_open))]
+pub fn field_rule(name: &[u8], s: &[u8], row: Row) -> Result<(), Refusal>
+    ensures { number_said result ≡ number_of (ask_field 0 field_order name.now (row_said row) s.now) }
 {
-    if s.len() == 0 {
+    if s.is_empty() {
         if row.need == b'S' {
-            return 13;
+            return Err(Refusal::EmptyField);
         }
-        return 0;
+        return Ok(());
     }
     if !right_bytes(row.format, s) {
-        return 14;
+        return Err(Refusal::WrongByte);
     }
     filled_rule(name, s, row)
 }
 
 // A number in digits: the rules of its row, then its value.
-fn read_number(s: &[u8], row: Row) -> NumberRead
+fn read_number(s: &[u8], row: Row) -> Result<u64, Refusal>
     requires { ((row_said row).format ≡ N) × ((row_said row).fill ≡ variable) × (row.size ≤ 18) }
-    ensures { result ≡ number_read (read_number (row_said row) s.now) }
+    ensures { reading_said (λ v. v) result ≡ read_number (row_said row) s.now }
 {
-    let number = field_rule(&s[0..0], s, row);
-    if number != 0 {
-        return NumberRead {
-            number: number,
-            value: 0,
-        };
-    }
-    NumberRead {
-        number: 0,
-        value: value(s),
-    }
+    field_rule(&s[..0], s, row)?;
+    Ok(value(s))
 }
 
-// An amount in centavos: 0 for the empty field, else refused with 14, 15 or 16. Number 0 is a value, never a refusal.
-pub fn read_amount(s: &[u8]) -> AmountRead
-    ensures says { amount_says result ≡ read_amount s.now }
-    ensures numbered { result ≡ AmountRead.Refused 0 → ⊥ }
+// An amount in centavos: 0 for the empty field, else refused with 14, 15 or 16.
+#[tactic(auto, unfolding(crate::proofs::Readings::rows_open))]
+pub fn read_amount(s: &[u8]) -> Result<Centavos, Refusal>
+    ensures { reading_said (λ c. c.0) result ≡ read_amount s.now }
 {
-    let row = Row {
-        format: b'N',
-        fill: b'V',
-        size: 13,
-        need: b'N',
-        holds: b'a',
-    };
-    let n = read_number(s, row);
-    if n.number == 0 {
-        return AmountRead::Value(Centavos(n.value));
-    }
-    AmountRead::Refused(n.number)
+    Ok(Centavos(read_number(s, AMOUNT)?))
 }
 
 // A month count in tenths of a month: 0 for the empty field, else refused with 14, 15 or 16.
-pub fn read_months(s: &[u8]) -> MonthRead
-    ensures says { month_says result ≡ read_months s.now }
-    ensures numbered { result ≡ MonthRead.Refused 0 → ⊥ }
+#[tactic(auto, unfolding(crate::proofs::Readings::rows_open))]
+pub fn read_months(s: &[u8]) -> Result<MonthTenths, Refusal>
+    ensures { reading_said (λ m. m.0) result ≡ read_months s.now }
 {
-    let row = Row {
-        format: b'N',
-        fill: b'V',
-        size: 4,
-        need: b'N',
-        holds: b'm',
-    };
-    let n = read_number(s, row);
-    if n.number == 0 {
-        return MonthRead::Value(MonthTenths(n.value));
-    }
-    MonthRead::Refused(n.number)
+    Ok(MonthTenths(read_number(s, MONTHS)?))
 }
 
 // 19: the lowest field at which a condition is broken.
-fn conditions_found(bytes: &[u8], p: Places, k: u32) -> Finding
-    ensures { result ≡ finding_of (ask_conditions 19 condition_order k (cells_at bytes.now p)) }
+#[tactic(auto, using(crate::proofs::Findings::at19), unfolding(crate::proofs::Findings::named, conditions::specs::Broken::broken_field))]
+fn conditions_found(cells: Cells, k: u32) -> Result<(), Breach>
+    ensures { found_said result ≡ ask_conditions 19 condition_order k (cells_of cells.entry) }
 {
-    let f = conditions::broken_field(bytes, p, k);
-    if f == 0 {
-        return Finding {
-            number: 0,
-            field: 0,
-        };
-    }
-    Finding {
-        number: 19,
-        field: f,
+    match conditions::broken_field(cells, k) {
+        Some(field) => Err(Breach {
+            refusal: Refusal::Disagrees,
+            field,
+        }),
+        None => Ok(()),
     }
 }
 
 // 13 to 18 and 26 field by field, lowest field first, then 19.
 pub fn contents_found(
-    bytes: &[u8],
-    p: Places,
+    cells: Cells,
     name: &[u8],
     rows: &[u8; layout::ROW_BYTES],
     k: u32,
-) -> Finding
-    ensures { result ≡ finding_of (contents_found k name.now (rows_in rows.now k) (cells_at bytes.now p)) }
+) -> Result<(), Breach>
+    ensures { found_said result ≡ contents_found k name.now (rows_in rows.now k) (cells_of cells.entry) }
 {
-    let n = layout::field_count(rows, k);
-    let mut i = 0;
-    while i < n {
-        // no second call of `conditions_found` here: from two places it is not put into this loop, at some 80 instructions a line
-        if p.count <= i {
-            break;
+    for i in 0..layout::field_count(rows, k).min(cells.places.count) {
+        let field = i + 1;
+        if let Err(refusal) = field_rule(name, cells.field(field), layout::row_at(rows, k, i)) {
+            return Err(Breach {
+                refusal,
+                field: field as u32,
+            });
         }
-        // not by a function of its own, which would take all places by value
-        let part = fields::part(bytes, p.starts[i], p.lens[i]);
-        let number = field_rule(name, part, layout::row_at(rows, k, i));
-        if number != 0 {
-            return Finding {
-                number: number,
-                field: (i + 1) as u32,
-            };
-        }
-        i += 1;
     }
-    conditions_found(bytes, p, k)
+    conditions_found(cells, k)
 }

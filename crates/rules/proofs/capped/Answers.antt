@@ -1,57 +1,42 @@
-use Prim.Native.Nat.{◌+◌, ◌-◌, ◌*◌, ◌≤◌}
-use mathlib.Core.Path.{◌≡◌, refl, sym, ap, ◌∙◌}
+-- The value is that of what is left from byte i on, after the number so far.
+use Prim.Native.Nat.{◌+◌, ◌-◌, ◌*◌, ◌^◌, ◌≤◌}
+use mathlib.Core.Path.{refl, sym, ap, ◌∙◌}
 use native.Mathlib.Nat.{le_trans, min-eq_left, min-eq_right}
 use native.Mathlib.Omega.{arith}
 use lib.ListN.{get_or, drop}
 use Rattle.dirf.specs.Bytes.{is_digit}
-use Rattle.dirf.specs.Numbers.{value_after, value_of}
-use Rattle.dirf.proofs.tests.Says.{digit_says}
+use Rattle.dirf.specs.Numbers.{value_of, value_after}
 use Rattle.dirf.proofs.tests.Lists.{drop_on}
+use Rattle.dirf.proofs.tests.Says.{digit_says}
 use Rattle.rules.proofs.Every.{every_here}
 use Rattle.rules.proofs.Values.{value_end, value_least}
 use Rattle.rules.proofs.capped.Goals as goal
 
-pub loop-i-init : goal.loop-i-init
+pub loop-b-init : goal.loop-b-init
 unfolding value_of
-loop-i-init c = (omega arith, (omega arith, refl))
+loop-b-init c = (omega arith, refl)
 
-pub overflow_sub-n : goal.overflow_sub-n
-unfolding value_of
-overflow_sub-n c =
-    let digit : (48 ≤ c.wide.result) × (c.wide.result ≤ 57) = let s = c.args.s.now in
-    let w : c.wide.result ≡ get_or s c.loop-i.i 0 = c.wide.ensures in
-    let d = (digit_says (get_or s c.loop-i.i 0)).0 (every_here is_digit s c.loop-i.i c.requires (omega arith)) in
-    omega arith in
-    digit.0
-
-pub overflow_add-n : goal.overflow_add-n
-unfolding value_of
-overflow_add-n c =
-    let digit : (48 ≤ c.wide.result) × (c.wide.result ≤ 57) = let s = c.args.s.now in
-    let w : c.wide.result ≡ get_or s c.loop-i.i 0 = c.wide.ensures in
-    let d = (digit_says (get_or s c.loop-i.i 0)).0 (every_here is_digit s c.loop-i.i c.requires (omega arith)) in
-    omega arith in
-    omega (arith, digit)
+pub overflow_sub-b : goal.overflow_sub-b
+overflow_sub-b c =
+    let i = c.loop-b.b-index in
+    ((digit_says (get_or c.args.s.now i 0)).0 (every_here is_digit c.args.s.now i c.requires c.loop-b-test.true)).0
 
 pub returns-then-n-ge1000000000000000000 : goal.returns-then-n-ge1000000000000000000
-unfolding value_of value_after
+unfolding value_after
 returns-then-n-ge1000000000000000000 c =
-    let more : let s = c.args.s.now in value_of s
-    ≡ value_after (c.loop-i.n * 10 + (c.wide.result - 48)) (drop (c.loop-i.i + 1) s) = c.loop-i.invariant.1.1
-    ∙ ap (value_after c.loop-i.n) (drop_on _ c.loop-i.i 0 (omega arith)) ∙ rw c.wide.ensures in
-    sym (min-eq_left (rw more (le_trans c.if-n-ge1000000000000000000.true (value_least (c.loop-i.n * 10 + (c.wide.result - 48))
-    (drop (c.loop-i.i + 1) c.args.s.now)))))
+    let l = c.loop-b in
+    let more = l.invariant.1 ∙ ap (value_after l.n) (drop_on _ l.b-index 0 c.loop-b-test.true) in
+    let next = l.n * 10 + (get_or c.args.s.now l.b-index 0 - 48) in
+    let big : 10 ^ 18 ≤ next = omega (arith, c.from.ensures) in
+    sym (min-eq_left (rw more (le_trans big (value_least next (drop (l.b-index + 1) c.args.s.now)))))
 
-pub loop-i-preserved : goal.loop-i-preserved
-unfolding value_of value_after
-loop-i-preserved c =
-    let more : let s = c.args.s.now in value_of s
-    ≡ value_after (c.loop-i.n * 10 + (c.wide.result - 48)) (drop (c.loop-i.i + 1) s) = c.loop-i.invariant.1.1
-    ∙ ap (value_after c.loop-i.n) (drop_on _ c.loop-i.i 0 (omega arith)) ∙ rw c.wide.ensures in
-    (omega arith, (omega arith, more))
+pub loop-b-preserved : goal.loop-b-preserved
+unfolding value_after
+loop-b-preserved c =
+    let l = c.loop-b in
+    (omega arith, l.invariant.1 ∙ ap (value_after l.n) (drop_on _ l.b-index 0 c.loop-b-test.true) ∙ rw c.from.ensures)
 
 pub returns : goal.returns
-unfolding value_of
 returns c =
-    let e = c.loop-i.invariant.1.1 ∙ value_end c.args.s.now c.loop-i.i c.loop-i.n (omega arith) in
-    rw e (sym (min-eq_right (omega arith)))
+    let l = c.loop-b in
+    rw (l.invariant.1 ∙ value_end _ l.b-index l.n c.loop-b-test.false) (sym (min-eq_right (omega arith)))

@@ -1,15 +1,8 @@
-use Prim.Native.Nat.{◌-◌, ◌≤◌}
-use mathlib.Core.Path.{◌≡◌}
-use Rattle.fields.specs.Places.{most_fields, cells_at}
+-- Nothing is found in the fields before field i + 1.
+use Rattle.std.proofs.Common.{◌≡◌}
+use Rattle.fields.specs.Places.{cells_of}
 use Rattle.rules.proofs.Findings.{fields_from}
 use Rattle.rules.proofs.contents_found.Given as goal
 
 abbrev pub invariant-loop-i : goal.invariant-loop-i
-invariant-loop-i l = record {
-  within : l.i ≤ l.n;
-  few : l.n ≤ most_fields;
-  left : fields_from l.rows l.k l.name (cells_at l.bytes l.p) 0 ≡ fields_from l.rows l.k l.name (cells_at l.bytes l.p) l.i;
-}
-
-abbrev pub decreases-loop-i : goal.decreases-loop-i
-decreases-loop-i l = l.n - l.i
+invariant-loop-i l = fields_from l.rows l.k l.name (cells_of l.cells) 0 ≡ fields_from l.rows l.k l.name (cells_of l.cells) l.i
