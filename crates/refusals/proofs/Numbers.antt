@@ -3,7 +3,10 @@ use Prim.Native.Nat.{ℕ, ◌≤◌}
 use mathlib.Core.Path.{◌≡◌, refl, sym, ap, ap₂, ◌∙◌}
 use mathlib.Core.List.{List, [], ◌∷◌}
 use native.Mathlib.Omega.{arith}
+use mathlib.Core.Bool.{false}
+use lib.Dec.{eqb}
 use lib.ListN.{get_or}
+use borrow.Author.Tests.{ne_eqb}
 use Rattle.refusals.specs.declared.Refusal.{Refusal}
 use Rattle.refusals.specs.declared.Refusal.TheVariants as refusal
 use Rattle.refusals.specs.Numbers.{number_for, number_said, found_said}
@@ -127,3 +130,6 @@ same_found (Ok a) (Err b) e = absurd (omega (arith, at_least_1 b.refusal, ap num
 same_found (Err b) (Ok a) e = absurd (omega (arith, at_least_1 b.refusal, ap number_in e))
 same_found (Err b) (Err d) e =
     ap₂ (λ r f. Err (record { refusal = r; field = f })) (one_number b.refusal d.refusal (ap number_in e)) (ap field_in e)
+
+pub not_0 : (r : Refusal) → eqb (number_for r) 0 ≡ false
+not_0 r = ne_eqb (number_for r) 0 (λ z. omega (arith, at_least_1 r))

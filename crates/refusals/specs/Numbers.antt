@@ -43,3 +43,7 @@ number_said (Err r) = number_for r
 abbrev pub found_said : {A : Type 0} → Result A Breach → Found
 found_said (Ok a) = keeps
 found_said (Err b) = breaks (number_for b.refusal) b.field
+
+-- a refusal that names no field
+abbrev pub whole : Refusal → Breach
+whole r = record { refusal = r; field = 0 }

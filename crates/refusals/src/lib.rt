@@ -2,7 +2,7 @@
 #![tactic(auto)]
 
 ghost use Rattle.std.specs.Prelude.{◌≡◌};
-ghost use Rattle.refusals.specs.Numbers.{number_for};
+ghost use Rattle.refusals.specs.Numbers.{number_for, whole};
 
 // One reason for each number of document 01 that is a refusal. 0, acceptance, is none.
 #[derive(Clone, Copy, PartialEq, Eq)]
@@ -49,4 +49,13 @@ impl Refusal {
 pub struct Breach {
     pub refusal: Refusal,
     pub field: u32,
+}
+
+// A refusal of the whole names no field.
+impl From<Refusal> for Breach {
+    ghost from_gives = { λ r b. b ≡ whole r };
+
+    fn from(refusal: Refusal) -> Breach {
+        Breach { refusal, field: 0 }
+    }
 }

@@ -17,8 +17,7 @@ use Rattle.dirf.specs.Theorems.ThereAndBack.{Sound-line, ReadsBack, together}
 use Rattle.dirf.proofs.back.NumbersBack.{numbers_back}
 use Rattle.dirf.proofs.Demands.{demands_named}
 use Rattle.editions.specs.Editions.{edition_says, edition_said}
-use Rattle.writer.specs.declared.NumberWritten.{NumberWritten}
-use Rattle.writer.specs.Answers.{number_written, line_written}
+use Rattle.writer.specs.Answers.{Answered, answered, number_answered, line_answered}
 use Rattle.writer.proofs as writer
 
 -- the first bytes of the output, as many as the count says, are those written
@@ -50,34 +49,34 @@ careful f text before n c o =
     }
 
 -- a number written is read back by a reader that reads back what the definition writes
-number_back : (w : Written) (before : Text) {r : NumberWritten} {after : Text} → r ≡ number_written w → after ≡ output_after w before
+number_back : (w : Written) (before : Text) {r : Answered} {after : Text} → r ≡ answered w → after ≡ output_after w before
     → (read : Text → Reading) (v : Reading)
     → (w.number ≡ 0 → read w.bytes ≡ v) → r.number ≡ 0 → read (take r.count after) ≡ v
-unfolding number_written
+unfolding answered
 number_back w before p o read v known e = rw (front w before (ap (λ r. r.count) p) o) (known (sym (ap (λ r. r.number) p) ∙ e))
 
 -- arguments: the number, the output
 module _ (κs : _) (a : _) (r : _) (s : _) (p : writer.write_amount.Reads.Post κs a r s) where
-  pub amount_back : r.number ≡ 0 → read_amount (take r.count s.1.0.now) ≡ record { number = 0; value = a.0.0 }
+  pub amount_back : (number_answered r).number ≡ 0 → read_amount (take (number_answered r).count s.1.0.now) ≡ record { number = 0; value = a.0.0 }
   amount_back = number_back _ a.1.0.now p.0 p.1 read_amount _ (numbers_back.amount_back a.0.0 (length a.1.0.now))
 
-  pub amount_careful : Careful r.number r.count a.1.0.now s.1.0.now
-  unfolding number_written amounts_opens
+  pub amount_careful : Careful (number_answered r).number (number_answered r).count a.1.0.now s.1.0.now
+  unfolding answered amounts_opens
   amount_careful = careful _ _ a.1.0.now (ap (λ r. r.number) p.0) (ap (λ r. r.count) p.0) p.1
 
 module _ (κs : _) (a : _) (r : _) (s : _) (p : writer.write_months.Reads.Post κs a r s) where
-  pub months_back : r.number ≡ 0 → read_months (take r.count s.1.0.now) ≡ record { number = 0; value = a.0.0 }
+  pub months_back : (number_answered r).number ≡ 0 → read_months (take (number_answered r).count s.1.0.now) ≡ record { number = 0; value = a.0.0 }
   months_back = number_back _ a.1.0.now p.0 p.1 read_months _ (numbers_back.months_back a.0.0 (length a.1.0.now))
 
-  pub months_careful : Careful r.number r.count a.1.0.now s.1.0.now
-  unfolding number_written amounts_opens
+  pub months_careful : Careful (number_answered r).number (number_answered r).count a.1.0.now s.1.0.now
+  unfolding answered amounts_opens
   months_careful = careful _ _ a.1.0.now (ap (λ r. r.number) p.0) (ap (λ r. r.count) p.0) p.1
 
 -- arguments: the edition, the kind, the contents, the lengths, the output
 module _ (κs : _) (a : _) (r : _) (s : _) (p : writer.write_line.Reads.Post κs a r s) where
-  pub line_back : r.number ≡ 0
-      → ReadsBack (edition_said a.0) a.1.0 a.1.1.0.now a.1.1.1.0.now (take r.count s.1.1.1.1.0.now)
-  unfolding line_written
+  pub line_back : (line_answered r).number ≡ 0
+      → ReadsBack (edition_said a.0) a.1.0 a.1.1.0.now a.1.1.1.0.now (take (line_answered r).count s.1.1.1.1.0.now)
+  unfolding answered
   line_back e =
       let out = a.1.1.1.1.0.now in
       let w = write_line (edition_said a.0) a.1.0 a.1.1.0.now a.1.1.1.0.now (length out) in
@@ -85,16 +84,16 @@ module _ (κs : _) (a : _) (r : _) (s : _) (p : writer.write_line.Reads.Post κs
       rw (front w out (ap (λ r. r.count) p.0) p.1)
       ((demands_named (edition_says a.0)).writer_reads_back a.1.0 a.1.1.0.now a.1.1.1.0.now (length out) n)
 
-  pub line_careful : Careful r.number r.count a.1.1.1.1.0.now s.1.1.1.1.0.now
-  unfolding line_written write_line
+  pub line_careful : Careful (line_answered r).number (line_answered r).count a.1.1.1.1.0.now s.1.1.1.1.0.now
+  unfolding answered write_line
   line_careful = careful _ _ a.1.1.1.1.0.now (ap (λ r. r.number) p.0) (ap (λ r. r.count) p.0) p.1
 
   -- and every line that breaks no rule of a line is what is written for its kind and its fields, where there is room
   pub line_there : (text : Text) → Sound-line (edition_said a.0) (whole_line text) → length text + 2 ≤ length a.1.1.1.1.0.now
       → a.1.0 ≡ kind_of_line (edition_said a.0) text → a.1.1.0.now ≡ together (fields text)
       → a.1.1.1.0.now ≡ map length (fields text)
-      → (r.number ≡ 0) × (take r.count s.1.1.1.1.0.now ≡ text ++ (13 ∷ 10 ∷ []))
-  unfolding line_written
+      → ((line_answered r).number ≡ 0) × (take (line_answered r).count s.1.1.1.1.0.now ≡ text ++ (13 ∷ 10 ∷ []))
+  unfolding answered
   line_there text sound room k c l =
       let out = a.1.1.1.1.0.now in
       let w = write_line (edition_said a.0) a.1.0 a.1.1.0.now a.1.1.1.0.now (length out) in

@@ -9,7 +9,10 @@ use lib.Dec.{eqb, ltb}
 use lib.ListN.{length}
 use borrow.Author.Tests.{eqb-true}
 use Rattle.dirf.specs.Bytes.{Text}
-use Rattle.dirf.specs.Edition.{Edition, is_base, name_of, rows_of}
+use Rattle.dirf.specs.Edition as dirf
+use Rattle.dirf.specs.Edition.{is_base, name_of, rows_of}
+use Rattle.editions.specs.declared.Edition.{Edition}
+use Rattle.editions.specs.Editions.{edition_says, edition_said}
 use Rattle.dirf.specs.Rules.{Found, Rule, gives, given, or_else, asked_of, over, ask, first}
 use Rattle.dirf.specs.Order.{contents_of, wrong_number_of_fields, contents}
 use Rattle.dirf.specs.LineWriter.{sum, Writing, writing, no_base_kind, lengths_do_not_add_up, output_too_small, writer_order}
@@ -17,9 +20,12 @@ use Rattle.dirf.proofs.rules.RulesPut.{first_append, first_over}
 use Rattle.fields.specs.Places.{cells_at, places_along}
 use Rattle.fields.proofs.Along.{along_cells}
 use Rattle.layout.specs.LaidOut.{Say}
-use Rattle.layout.proofs.Laws.{count_is, few_rows}
+use Rattle.layout.specs.Tables.{name_table, row_table}
+use Rattle.layout.proofs.Laws.{count_is, few_rows, says}
+use Rattle.layout.proofs.Editions.{laid_out_lem}
 use Rattle.rules.specs.Findings.{contents_found}
 use Rattle.rules.proofs.Laws.{or_keeps}
+use Rattle.writer.specs.declared.Asked.{Asked}
 use Rattle.writer.specs.Answers.{misfit_of, contents_along, refusal_of}
 use Rattle.writer.proofs.Lengths.{cut_length, line_length}
 
@@ -35,8 +41,17 @@ three true true false x y h = refl
 three true true true x y h = h refl refl
 
 -- no start is capped inside a text that is in memory
-module _ {e : Edition} {names rows : List ℕ} (say : Say e names rows) (k : ℕ) (text : Text) (ns : List ℕ) (room : ℕ)
-    (small : length text ≤ 18446744073709551615) where
+module _ {e : dirf.Edition} (a : Asked) (say : Say e a.names.now a.rows.now) (room : ℕ)
+    (small : length a.contents.now ≤ 18446744073709551615) where
+  abbrev k : ℕ
+  k = a.kind
+
+  abbrev text : Text
+  text = a.contents.now
+
+  abbrev ns : List ℕ
+  ns = a.lengths.now
+
   -- 13 to 19 and 26, then 24
   abbrev later : List (Rule Writing)
   later = over (λ w. w.contents) contents ++ (gives 24 0 output_too_small ∷ [])
@@ -56,10 +71,16 @@ module _ {e : Edition} {names rows : List ℕ} (say : Say e names rows) (k : ℕ
         or_keeps (given 24 0 _),
       )
 
-  pub by_tables : refusal_of names rows k text ns room ≡ first writer_order (writing e k text ns room)
+  pub by_tables : refusal_of a room ≡ first writer_order (writing e k text ns room)
   unfolding misfit_of contents_along refusal_of first ask over asked_of writer_order writing contents_of
       no_base_kind wrong_number_of_fields lengths_do_not_add_up
   by_tables =
       rw (say.base k, count_is say.all_rows k, say.name k, say.all_rows.fields k, cut_length ns text)
       (three (is_base e k) (eqb (length ns) (length (rows_of e k))) (eqb (sum ns) (length text)) _ _
       (λ c a. later_finds (eqb-true (length ns) (length (rows_of e k)) c) (eqb-true (sum ns) (length text) a)))
+
+-- the tables of an edition say it
+pub by_edition : (e : Edition) (a : Asked) → a.names.now ≡ name_table (edition_said e) → a.rows.now ≡ row_table (edition_said e)
+    → (room : ℕ) → length a.contents.now ≤ 18446744073709551615
+    → refusal_of a room ≡ first writer_order (writing (edition_said e) a.kind a.contents.now a.lengths.now room)
+by_edition e a n r room small = by_tables a (rw (n, r) (says _ (laid_out_lem (edition_says e)))) room small

@@ -1,12 +1,13 @@
 -- A line stored into an output: field by field, and a field byte by byte.
 use Prim.Native.Nat.{ℕ, suc, ◌+◌, ◌≤◌, ◌<◌}
-use mathlib.Core.Path.{◌≡◌, ◌∙◌}
+use mathlib.Core.Path.{◌≡◌, sym, ap, ◌∙◌}
 use mathlib.Core.List.{List, [], ◌∷◌, ◌++◌, append_assoc}
 use native.Mathlib.Nat.{add-zero}
 use native.Mathlib.Numerals.{add-one}
 use native.Mathlib.Omega.{arith}
-use lib.ListN.{length, get_or, drop, set, length-append, drop_of_length-le}
+use lib.ListN.{length, get_or, take, drop, set, length-append, drop_of_length-le}
 use lib.Seq.{drop-cons, drop-drop, sets}
+use Rattle.std.proofs.lemmas.List.Edits.{sets-eq}
 use Rattle.dirf.specs.Bytes.{Text}
 use Rattle.dirf.specs.Limits.{bar, line_end}
 use Rattle.dirf.specs.LineWriter.{cut, sum, joined, line_of}
@@ -19,17 +20,11 @@ sets_append out at (b ∷ s) t =
     let n : suc at + length s ≡ at + suc (length s) = omega arith in
     rw (← n) (sets_append (set out at b) (suc at) s t)
 
--- what is left of a field from byte i on, with its bar
-module _ (field out : Text) (at i : ℕ) where
-  pub field_on : i < length field
-      → sets out (at + i) (drop i field ++ (bar ∷ []))
-      ≡ sets (set out (at + i) (get_or field i 0)) (at + (i + 1)) (drop (i + 1) field ++ (bar ∷ []))
-  field_on h =
-      let n : at + (i + 1) ≡ suc (at + i) = omega arith in
-      rw (n, drop-cons field i 0, add-one)
-
-  pub field_end : length field ≤ i → sets out (at + i) (drop i field ++ (bar ∷ [])) ≡ set out (at + i) bar
-  field_end h = rw (drop_of_length-le field h)
+-- a field copied in as a whole, and its bar
+pub field_stored : (field out : Text) (at n : ℕ) → n ≡ length field → at + length field < length out
+    → set (take at out ++ (field ++ drop n (drop at out))) (at + length field) bar ≡ sets out at (field ++ (bar ∷ []))
+field_stored field out at n e h =
+    rw (e, drop-drop, ← append_assoc) (sym (sets_append out at field (bar ∷ []) ∙ ap (λ l. set l (at + length field) bar) (sets-eq field out at (omega arith))))
 
 -- what is left of a line from length i and byte `from` on
 unfoldable pub rest : List ℕ → Text → ℕ → ℕ → Text

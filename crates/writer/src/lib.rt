@@ -9,26 +9,14 @@ ghost use Rattle.dirf.specs.Written.{output_after};
 ghost use Rattle.dirf.specs.Amounts.{write_number, write_amount, write_months};
 ghost use Rattle.dirf.specs.LineWriter.{sum, cut, line_of, write_line};
 ghost use Rattle.editions.specs.Editions.{edition_said};
-ghost use Rattle.rules.specs.Findings.{finding_of};
-ghost use Rattle.writer.specs.Answers.{number_written, line_written, misfit_of, contents_along, refusal_of};
+ghost use Rattle.refusals.specs.Numbers.{number_said, found_said};
+ghost use Rattle.writer.specs.Answers.{answered, number_answered, line_answered, misfit_of, contents_along, refusal_of};
 
 use editions::Edition;
-use rules::{Centavos, Finding, MonthTenths};
-
-// A number, 0 where it was written, and the count of bytes written.
-#[derive(Clone, Copy)]
-pub struct NumberWritten {
-    pub number: u32,
-    pub count: usize,
-}
-
-// A number, 0 where the line was written, the field it names, and the count of bytes written.
-#[derive(Clone, Copy)]
-pub struct LineWritten {
-    pub number: u32,
-    pub field: u32,
-    pub count: usize,
-}
+use fields::Cells;
+use layout::{NAME_BYTES, ROW_BYTES};
+use refusals::{Breach, Refusal};
+use rules::{Centavos, MonthTenths};
 
 // How many digits a number has, none for zero.
 fn count_digits(v: u64) -> usize
@@ -38,7 +26,7 @@ fn count_digits(v: u64) -> usize
     let mut x = v;
     while 0 < x {
         n += 1;
-        x = x / 10;
+        x /= 10;
     }
     n
 }
@@ -48,53 +36,44 @@ fn put_digits(v: u64, n: usize, out: &mut [u8])
     requires { (n ≡ length (decimal 20 v)) × (n ≤ length out.old) }
     ensures { out.new ≡ decimal 20 v ++ drop n out.old }
 {
-    let mut i = n;
     let mut x = v;
-    while 0 < x {
-        i -= 1;
-        out[i] = 48 + (x % 10) as u8;
-        x = x / 10;
+    for i in (0..n).rev() {
+        out[i] = b'0' + (x % 10) as u8;
+        x /= 10;
     }
 }
 
-// A number of at most `size` digits, the largest of which is `limit`.
-fn write_number(v: u64, size: usize, limit: u64, out: &mut [u8]) -> NumberWritten
+// A number of at most `size` digits, the largest of which is `limit`; how many bytes it has.
+fn write_number(v: u64, size: usize, limit: u64, out: &mut [u8]) -> Result<usize, Refusal>
     requires { (limit ≡ largest size) × (size ≤ 20) }
-    ensures { (result ≡ number_written (write_number size v (length out.old)))
-        × (out.new ≡ output_after (write_number size v (length out.old)) out.old) }
+    ensures said { number_answered result ≡ answered (write_number size v (length out.old)) }
+    ensures output { out.new ≡ output_after (write_number size v (length out.old)) out.old }
 {
     if limit < v {
-        return NumberWritten {
-            number: 15,
-            count: 0,
-        };
+        return Err(Refusal::WrongSize);
     }
     let n = count_digits(v);
     if out.len() < n {
-        return NumberWritten {
-            number: 24,
-            count: 0,
-        };
+        return Err(Refusal::SmallOutput);
     }
     put_digits(v, n, out);
-    NumberWritten {
-        number: 0,
-        count: n,
-    }
+    Ok(n)
 }
 
 // An amount: 15 over the limit, then 24 for too little room; zero writes no byte.
-pub fn write_amount(v: Centavos, out: &mut [u8]) -> NumberWritten
-    ensures { (result ≡ number_written (write_amount v.0 (length out.old)))
-        × (out.new ≡ output_after (write_amount v.0 (length out.old)) out.old) }
+#[tactic(auto, unfolding(dirf::specs::Amounts::write_amount))]
+pub fn write_amount(v: Centavos, out: &mut [u8]) -> Result<usize, Refusal>
+    ensures said { number_answered result ≡ answered (write_amount v.0 (length out.old)) }
+    ensures output { out.new ≡ output_after (write_amount v.0 (length out.old)) out.old }
 {
     write_number(v.0, 13, 9999999999999, out)
 }
 
 // A month count: 15 over the limit, then 24 for too little room; zero writes no byte.
-pub fn write_months(v: MonthTenths, out: &mut [u8]) -> NumberWritten
-    ensures { (result ≡ number_written (write_months v.0 (length out.old)))
-        × (out.new ≡ output_after (write_months v.0 (length out.old)) out.old) }
+#[tactic(auto, unfolding(dirf::specs::Amounts::write_months))]
+pub fn write_months(v: MonthTenths, out: &mut [u8]) -> Result<usize, Refusal>
+    ensures said { number_answered result ≡ answered (write_months v.0 (length out.old)) }
+    ensures output { out.new ≡ output_after (write_months v.0 (length out.old)) out.old }
 {
     write_number(v.0, 4, 9999, out)
 }
@@ -104,13 +83,11 @@ fn add_up(lengths: &[usize], total: usize) -> bool
     ensures { result ≡ eqb (sum lengths.now) total }
 {
     let mut left = total;
-    let mut i = 0;
-    while i < lengths.len() {
-        if left < lengths[i] {
+    for &n in lengths {
+        let Some(rest) = left.checked_sub(n) else {
             return false;
-        }
-        left -= lengths[i];
-        i += 1;
+        };
+        left = rest;
     }
     left == 0
 }
@@ -121,13 +98,10 @@ fn put_field(field: &[u8], out: &mut [u8], at: usize) -> usize
     ensures { (result ≡ at + length field.now + 1)
         × (out.new ≡ sets out.old at (field.now ++ (bar ∷ []))) }
 {
-    let mut i = 0;
-    while i < field.len() {
-        out[at + i] = field[i];
-        i += 1;
-    }
-    out[at + i] = 124;
-    at + i + 1
+    let bar = at + field.len();
+    out[at..bar].copy_from_slice(field);
+    out[bar] = b'|';
+    bar + 1
 }
 
 // The line with its CR LF, into an output that has the room.
@@ -138,56 +112,72 @@ fn put_line(contents: &[u8], lengths: &[usize], out: &mut [u8]) -> usize
 {
     let mut from = 0;
     let mut at = 0;
-    let mut i = 0;
-    while i < lengths.len() {
-        let n = lengths[i];
+    for &n in lengths {
         at = put_field(fields::part(contents, from, n), out, at);
         from += n;
-        i += 1;
     }
-    out[at] = 13;
-    out[at + 1] = 10;
+    out[at] = b'\r';
+    out[at + 1] = b'\n';
     at + 2
 }
 
-// 22, 11 or 23, in that order; 0 where none is given.
-fn misfit(
-    names: &[u8; layout::NAME_BYTES],
-    rows: &[u8; layout::ROW_BYTES],
+// What the line writer is asked for, with the tables of its edition.
+#[derive(Clone, Copy)]
+struct Asked<'a> {
+    names: &'a [u8; NAME_BYTES],
+    rows: &'a [u8; ROW_BYTES],
     kind: u32,
-    contents: &[u8],
-    lengths: &[usize],
-) -> u32
-    ensures { result ≡ misfit_of names.now rows.now kind contents.now lengths.now }
-{
-    if !layout::is_base(names, kind) {
-        return 22;
-    }
-    if lengths.len() != layout::field_count(rows, kind) {
-        return 11;
-    }
-    if !add_up(lengths, contents.len()) {
-        return 23;
-    }
-    0
+    contents: &'a [u8],
+    lengths: &'a [usize],
 }
 
-// 13 to 18 and 26 by field, then 19, of what stands along the lengths.
-fn contents_refused(
-    names: &[u8; layout::NAME_BYTES],
-    rows: &[u8; layout::ROW_BYTES],
-    kind: u32,
-    contents: &[u8],
-    lengths: &[usize],
-) -> Finding
-    ensures { result ≡ finding_of
-        (contents_along names.now rows.now kind contents.now lengths.now) }
-{
-    let p = fields::places_along(lengths);
-    rules::contents_found(contents, p, layout::name(names, kind), rows, kind)
+impl<'a> Asked<'a> {
+    // 22, 11 or 23, in that order.
+    #[tactic(auto, using(std::proofs::lemmas::Bool::Decides::nat_tests), unfolding(crate::specs::Answers::misfit_of))]
+    fn misfit(self) -> Result<(), Refusal>
+        ensures { number_said result ≡ misfit_of self.entry }
+    {
+        if !layout::is_base(self.names, self.kind) {
+            return Err(Refusal::NotWritten);
+        }
+        if self.lengths.len() != layout::field_count(self.rows, self.kind) {
+            return Err(Refusal::WrongFieldCount);
+        }
+        if !add_up(self.lengths, self.contents.len()) {
+            return Err(Refusal::LengthsOff);
+        }
+        Ok(())
+    }
+
+    // 13 to 18 and 26 by field, then 19, of what stands along the lengths.
+    #[tactic(auto, unfolding(crate::specs::Answers::contents_along))]
+    fn contents_refused(self) -> Result<(), Breach>
+        ensures { found_said result ≡ contents_along self.entry }
+    {
+        let cells = Cells {
+            bytes: self.contents,
+            places: &fields::places_along(self.lengths),
+        };
+        let name = layout::name(self.names, self.kind);
+        rules::contents_found(cells, name, self.rows, self.kind)
+    }
+
+    // The first refusal: 22, 11, 23, 13 to 18 and 26 by field, 19, 24.
+    #[tactic(auto, using(refusals::proofs::Numbers::not_0), unfolding(crate::specs::Answers::refusal_of, dirf::specs::Rules::given, dirf::specs::Rules::or_else))]
+    fn refusal(self, room: usize) -> Result<(), Breach>
+        ensures { found_said result ≡ refusal_of self.entry room }
+    {
+        self.misfit()?;
+        self.contents_refused()?;
+        if too_small(self.contents.len(), self.lengths.len(), room) {
+            return Err(Breach::from(Refusal::SmallOutput));
+        }
+        Ok(())
+    }
 }
 
 // 24: no room for the contents, a bar a field and CR LF.
+#[tactic(auto, using(std::proofs::lemmas::Bool::Decides::nat_tests))]
 fn too_small(bytes: usize, count: usize, room: usize) -> bool
     ensures { result ≡ ltb room (bytes + count + 2) }
 {
@@ -201,66 +191,27 @@ fn too_small(bytes: usize, count: usize, room: usize) -> bool
     left - 2 < count
 }
 
-// The first refusal: 22, 11, 23, 13 to 18 and 26 by field, 19, 24; its number is 0 where there is none.
-fn refusal(
-    names: &[u8; layout::NAME_BYTES],
-    rows: &[u8; layout::ROW_BYTES],
-    kind: u32,
-    contents: &[u8],
-    lengths: &[usize],
-    room: usize,
-) -> Finding
-    ensures { result ≡ finding_of
-        (refusal_of names.now rows.now kind contents.now lengths.now room) }
-{
-    let n = misfit(names, rows, kind, contents, lengths);
-    if n != 0 {
-        return Finding {
-            number: n,
-            field: 0,
-        };
-    }
-    let f = contents_refused(names, rows, kind, contents, lengths);
-    if f.number != 0 {
-        return f;
-    }
-    if too_small(contents.len(), lengths.len(), room) {
-        return Finding {
-            number: 24,
-            field: 0,
-        };
-    }
-    f
-}
-
-// The line of a kind, in an edition, and the contents of its fields, one after another with their lengths; or the first refusal.
+// The line of a kind, in an edition, and the contents of its fields, one after another with their lengths: how many bytes it has; or the
+// first refusal.
 pub fn write_line(
     e: Edition,
     kind: u32,
     contents: &[u8],
     lengths: &[usize],
     out: &mut [u8],
-) -> LineWritten
-    ensures { (result
-        ≡ line_written (write_line (edition_said e) kind contents.now lengths.now (length out.old)))
-        × (out.new
-        ≡ output_after (write_line (edition_said e) kind contents.now lengths.now (length out.old))
-        out.old) }
+) -> Result<usize, Breach>
+    ensures said { line_answered result
+        ≡ answered (write_line (edition_said e) kind contents.now lengths.now (length out.old)) }
+    ensures output { out.new
+        ≡ output_after (write_line (edition_said e) kind contents.now lengths.now (length out.old)) out.old }
 {
-    let names = layout::name_table(e);
-    let rows = layout::row_table(e);
-    let r = refusal(&names, &rows, kind, contents, lengths, out.len());
-    if r.number != 0 {
-        return LineWritten {
-            number: r.number,
-            field: r.field,
-            count: 0,
-        };
-    }
-    let count = put_line(contents, lengths, out);
-    LineWritten {
-        number: 0,
-        field: 0,
-        count: count,
-    }
+    let asked = Asked {
+        names: &layout::name_table(e),
+        rows: &layout::row_table(e),
+        kind,
+        contents,
+        lengths,
+    };
+    asked.refusal(out.len())?;
+    Ok(put_line(contents, lengths, out))
 }

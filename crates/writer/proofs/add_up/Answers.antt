@@ -4,16 +4,19 @@ use native.Mathlib.Omega.{arith}
 use Rattle.writer.proofs.Lengths.{sum_past, sum_on, sum_end}
 use Rattle.writer.proofs.add_up.Goals as goal
 
-pub loop-i-init : goal.loop-i-init
-loop-i-init c = (omega arith, refl)
+pub loop-n-init : goal.loop-n-init
+loop-n-init c = refl
 
-pub returns-then-left-lengths : goal.returns-then-left-lengths
-returns-then-left-lengths c = let l = c.loop-i in sym (l.invariant.1 ∙ sum_past _ l.i l.left (omega arith) (omega arith))
+pub returns-in_default : goal.returns-in_default
+returns-in_default c =
+    let l = c.loop-n in
+    sym (l.invariant ∙ sum_past _ l.n-index l.left (omega (arith, c.in_default.ensures)) c.loop-n-test.true)
 
-pub loop-i-preserved : goal.loop-i-preserved
-loop-i-preserved c =
-    let l = c.loop-i in
-    (omega arith, l.invariant.1 ∙ sum_on _ l.i l.left (omega arith) (omega arith))
+pub loop-n-preserved : goal.loop-n-preserved
+loop-n-preserved c =
+    let l = c.loop-n in
+    let e = c.in-Some.ensures in
+    l.invariant ∙ sum_on _ l.n-index l.left e.0 c.loop-n-test.true ∙ rw e.1
 
 pub returns : goal.returns
-returns c = let l = c.loop-i in sym (l.invariant.1 ∙ sum_end _ l.i l.left (omega arith))
+returns c = let l = c.loop-n in sym (l.invariant ∙ sum_end _ l.n-index l.left (omega arith))

@@ -1,58 +1,47 @@
 -- The first refusal; where there is none, the line.
-use Prim.Native.Nat.{◌≤◌}
-use mathlib.Core.Path.{◌≡◌, refl, ap, ◌∙◌}
+use mathlib.Core.Path.{◌≡◌, refl, ◌∙◌}
 use native.Mathlib.Omega.{arith}
-use lib.ListN.{length}
-use Rattle.dirf.specs.Rules.{first}
-use Rattle.dirf.specs.LineWriter.{writing, writer_order}
+use borrow.Author.Rules.{rules}
+use Rattle.std.specs.Prelude.{Err}
 use Rattle.dirf.specs.Written.{writes, output_after}
-use Rattle.layout.specs.LaidOut.{Say}
-use Rattle.editions.specs.Editions.{edition_says, edition_said}
-use Rattle.layout.proofs.Laws.{says}
-use Rattle.layout.proofs.Editions.{laid_out_lem}
-use Rattle.rules.specs.Findings.{finding_of}
-use Rattle.writer.specs.Answers.{line_written}
-use Rattle.writer.proofs.Refusals.{by_tables}
+use Rattle.writer.specs.Answers.{answered}
+use Rattle.writer.proofs.Refusals.{by_edition}
 use Rattle.writer.proofs.LineAnswer.{line_refused, line_written_lem, added_up, has_room, line_stored}
 use Rattle.writer.proofs.write_line.Goals as goal
 
-pub returns-then-r-ne0 : goal.returns-then-r-ne0
-unfolding writes output_after line_written
-returns-then-r-ne0 c =
-    let asked : let a = c.args in c.refusal-r.result
-    ≡ finding_of (first writer_order (writing (edition_said a.e) a.kind a.contents.now a.lengths.now (length a.out.now))) = let
-    small : length c.args.contents.now ≤ 18446744073709551615 = omega (arith, c.well_formed) in
-    let say : Say (edition_said c.args.e) c.name_table-names.result c.row_table-rows.result =
-    rw (c.name_table-names.ensures, c.row_table-rows.ensures) (says _ (laid_out_lem (edition_says c.args.e))) in
-    c.refusal-r.ensures ∙ ap finding_of (by_tables say c.args.kind c.args.contents.now c.args.lengths.now _ small) in
-    let w = line_refused _ _ _ _ _ asked c.if-r-ne0.true in
-    (rw w, rw w)
+pub returns-in_err-refusal-clause-said : goal.returns-in_err-refusal-clause-said
+unfolding writes answered
+returns-in_err-refusal-clause-said c =
+    let asked = by_edition _ _ c.name_table.ensures c.row_table.ensures _ (omega (arith, c.well_formed)) in
+    let b = c.in_err-refusal.field-0.0 in
+    let e : c.from_residual.result ≡ Err b = search rules in
+    let w = line_refused _ _ _ _ _ (c.in_err-refusal.ensures ∙ asked) in
+    rw (e, w)
 
-pub put_line-count-requires : goal.put_line-count-requires
-unfolding writes output_after line_written
-put_line-count-requires c =
-    let asked : let a = c.args in c.refusal-r.result
-    ≡ finding_of (first writer_order (writing (edition_said a.e) a.kind a.contents.now a.lengths.now (length a.out.now))) = let
-    small : length c.args.contents.now ≤ 18446744073709551615 = omega (arith, c.well_formed) in
-    let say : Say (edition_said c.args.e) c.name_table-names.result c.row_table-rows.result =
-    rw (c.name_table-names.ensures, c.row_table-rows.ensures) (says _ (laid_out_lem (edition_says c.args.e))) in
-    c.refusal-r.ensures ∙ ap finding_of (by_tables say c.args.kind c.args.contents.now c.args.lengths.now _ small) in
-    let q = asked in
-    let none = c.if-r-ne0.false in
-    (added_up _ _ _ _ _ q none, has_room _ _ _ _ _ q none)
+pub returns-in_err-refusal-clause-output : goal.returns-in_err-refusal-clause-output
+unfolding writes output_after
+returns-in_err-refusal-clause-output c =
+    let asked = by_edition _ _ c.name_table.ensures c.row_table.ensures _ (omega (arith, c.well_formed)) in
+    let w = line_refused _ _ _ _ _ (c.in_err-refusal.ensures ∙ asked) in
+    rw w
 
-pub returns : goal.returns
-unfolding writes output_after line_written
-returns c =
-    let asked : let a = c.args in c.refusal-r.result
-    ≡ finding_of (first writer_order (writing (edition_said a.e) a.kind a.contents.now a.lengths.now (length a.out.now))) = let
-    small : length c.args.contents.now ≤ 18446744073709551615 = omega (arith, c.well_formed) in
-    let say : Say (edition_said c.args.e) c.name_table-names.result c.row_table-rows.result =
-    rw (c.name_table-names.ensures, c.row_table-rows.ensures) (says _ (laid_out_lem (edition_says c.args.e))) in
-    c.refusal-r.ensures ∙ ap finding_of (by_tables say c.args.kind c.args.contents.now c.args.lengths.now _ small) in
-    let a = c.args in
-    let q = asked in
-    let p = c.put_line-count.ensures in
-    let w = line_written_lem _ _ _ _ _ q c.if-r-ne0.false in
-    let l = line_stored _ _ _ _ _ q c.if-r-ne0.false a.out.now refl in
-    (rw (w, p.0), rw w (p.1 ∙ l))
+pub put_line-requires : goal.put_line-requires
+put_line-requires c =
+    let asked = by_edition _ _ c.name_table.ensures c.row_table.ensures _ (omega (arith, c.well_formed)) in
+    let none = c.in_ok-refusal.ensures ∙ asked in
+    (added_up _ _ _ _ _ none, has_room _ _ _ _ _ none)
+
+pub returns-clause-said : goal.returns-clause-said
+unfolding writes answered
+returns-clause-said c =
+    let asked = by_edition _ _ c.name_table.ensures c.row_table.ensures _ (omega (arith, c.well_formed)) in
+    let w = line_written_lem _ _ _ _ _ (c.in_ok-refusal.ensures ∙ asked) in
+    rw (w, c.put_line.ensures.0)
+
+pub returns-clause-output : goal.returns-clause-output
+unfolding writes output_after
+returns-clause-output c =
+    let asked = by_edition _ _ c.name_table.ensures c.row_table.ensures _ (omega (arith, c.well_formed)) in
+    let none = c.in_ok-refusal.ensures ∙ asked in
+    let w = line_written_lem _ _ _ _ _ none in
+    rw w (c.put_line.ensures.1 ∙ line_stored _ _ _ _ _ none c.args.out.now refl)
