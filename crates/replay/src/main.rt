@@ -58,7 +58,7 @@ fn four(a: u8, b: u8, c: u8, d: u8) -> u64
 
 fn read_number(input: &mut impl Read) -> Number {
     let mut b = [0u8; 8];
-    let got = input::read_all(input, &mut b).len;
+    let got = input::read_all(input, &mut b).unwrap_or(0);
     let low = four(b[0], b[1], b[2], b[3]);
     let high = four(b[4], b[5], b[6], b[7]);
     Number {
@@ -99,7 +99,7 @@ fn read_bytes(input: &mut impl Read, buf: &mut [u8]) -> Count
 {
     let n = read_bytes_within(input, buf);
     let len = n.len;
-    let got = input::read_all(input, &mut buf[..len]).len;
+    let got = input::read_all(input, &mut buf[..len]).unwrap_or(0);
     if got < len {
         return Count { ok: false, len: 0 };
     }
@@ -587,10 +587,10 @@ fn replay_case(rt: &impl Print, input: &mut impl Read, letter: u8) -> io::Result
 fn next_case(rt: &impl Print, input: &mut impl Read) -> io::Result<bool> {
     let mut letter = [0u8; 1];
     let got = input::read_some(input, &mut letter);
-    if got.len == 0 && !got.failed {
+    if matches!(got, Ok(0)) {
         return Ok(false);
     }
-    if got.len > 0 && replay_case(rt, input, letter[0])? {
+    if got.is_ok() && replay_case(rt, input, letter[0])? {
         return Ok(true);
     }
     rt.write_all(b"bad case\n")?;
