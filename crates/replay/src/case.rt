@@ -3,7 +3,7 @@ use crate::files::{replay_check, replay_totals};
 use crate::numbers::{
     replay_amount_read, replay_amount_written, replay_months_read, replay_months_written,
 };
-use crate::questions::{replay_search, replay_search_in};
+use crate::questions::{replay_search, replay_search_given};
 use crate::records::{read_edition, replay_field, replay_line};
 use crate::stop::{BadCase, Stop};
 use editions::Edition;
@@ -14,7 +14,7 @@ pub enum Case {
     Check,
     Totals,
     Search,
-    SearchIn,
+    SearchGiven,
     Line,
     LineByEdition,
     Field,
@@ -32,7 +32,7 @@ impl TryFrom<u8> for Case {
             b'C' => Ok(Case::Check),
             b'N' => Ok(Case::Totals),
             b'S' => Ok(Case::Search),
-            b'T' => Ok(Case::SearchIn),
+            b'T' => Ok(Case::SearchGiven),
             b'W' => Ok(Case::Line),
             b'E' => Ok(Case::LineByEdition),
             b'F' => Ok(Case::Field),
@@ -62,7 +62,7 @@ impl Case {
             Case::Check => replay_check(rt, input),
             Case::Totals => replay_totals(rt, input),
             Case::Search => replay_search(rt, input),
-            Case::SearchIn => replay_search_in(rt, input),
+            Case::SearchGiven => replay_search_given(rt, input),
             Case::Line => replay_line(rt, input, Edition::Of2025),
             Case::LineByEdition => {
                 let edition = read_edition(input)?;

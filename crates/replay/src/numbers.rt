@@ -18,11 +18,10 @@ fn replay_reader<F: Fn(&[u8]) -> Result<u64, u32>>(
 {
     let mut bytes = [0u8; BYTES];
     let field = read_bytes(input, &mut bytes)?;
-    let (number, value) = match read(field) {
-        Ok(value) => (0, value),
-        Err(number) => (number, 0),
-    };
-    println!(rt; "{number} {value}")?;
+    match read(field) {
+        Ok(value) => println!(rt; "0 {value}")?,
+        Err(number) => println!(rt; "{number} 0")?,
+    }
     Ok(())
 }
 

@@ -1,4 +1,6 @@
 // The parts that a case is made of, as they are read one after the other.
+ghost use Rattle.std.specs.Prelude.{◌≤◌, length, IfOk};
+
 use crate::stop::BadCase;
 use std::io::Read;
 
@@ -21,13 +23,17 @@ where
 }
 
 // As many places of a space as a number says.
-pub fn read_room<'a, T>(input: &mut impl Read, space: &'a mut [T]) -> Result<&'a mut [T], BadCase> {
+pub fn read_room<'a, T>(input: &mut impl Read, space: &'a mut [T]) -> Result<&'a mut [T], BadCase>
+    ensures { IfOk result (λ room. length room.now ≤ length space.old) }
+{
     let count: usize = read_number(input)?;
     space.get_mut(..count).ok_or(BadCase)
 }
 
 // A byte string, put at the start of a space.
-pub fn read_bytes<'a>(input: &mut impl Read, space: &'a mut [u8]) -> Result<&'a [u8], BadCase> {
+pub fn read_bytes<'a>(input: &mut impl Read, space: &'a mut [u8]) -> Result<&'a [u8], BadCase>
+    ensures { IfOk result (λ bytes. length bytes.now ≤ length space.old) }
+{
     let bytes = read_room(input, space)?;
     fill(input, bytes)?;
     Ok(bytes)
@@ -40,6 +46,7 @@ pub fn read_list<'a, T: TryFrom<u64> + Drop>(
 ) -> Result<&'a mut [T], BadCase>
 where
     T::Error: Drop,
+    ensures { IfOk result (λ list. length list.now ≤ length space.old) }
 {
     let list = read_room(input, space)?;
     for place in list.iter_mut() {

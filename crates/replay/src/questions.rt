@@ -44,7 +44,7 @@ pub fn replay_search(rt: &impl Print, input: &mut impl Read) -> Result<(), Stop>
     Ok(())
 }
 
-pub fn replay_search_in(rt: &impl Print, input: &mut impl Read) -> Result<(), Stop> {
+pub fn replay_search_given(rt: &impl Print, input: &mut impl Read) -> Result<(), Stop> {
     let mut numbers = [0u32; NUMBERS];
     let mut file = [0u8; BYTES];
     let mut key = [0u8; BYTES];
