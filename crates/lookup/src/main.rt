@@ -48,29 +48,22 @@ fn word<'a>(rt: &impl Env, i: usize, space: &'a mut [u8]) -> Option<&'a [u8]> {
     Some(&space[..count])
 }
 
-// One byte more than the longest file, so that a longer one is seen to be longer. Each in a function of its own, so that no proof works out
-// a list of that length.
-fn space_for_file() -> [u8; BYTES + 1] {
-    [0; BYTES + 1]
-}
-
-fn space_for_table() -> [u32; LINES * checker::NUMBERS_AN_ENTRY] {
-    [0; LINES * checker::NUMBERS_AN_ENTRY]
+// A function of its own, since a proof over lists of these lengths in `main` works them out, and runs out of stack.
+fn zeros<T: Copy + Default, const N: usize>() -> [T; N] {
+    [T::default(); N]
 }
 
 fn main(rt: HostRuntime) -> io::Result<()> {
     let mut digits = [0u8; 16];
     let mut cpf = [0u8; 64];
-    let mut file = space_for_file();
-    let mut table = space_for_table();
-    // line 0 is none, so a search without a line finds no way there
+    // one byte more than the longest file, so that a longer one is seen to be longer
+    let mut file: [u8; BYTES + 1] = zeros();
+    let mut table: [u32; LINES * checker::NUMBERS_AN_ENTRY] = zeros();
+    // the search takes a number in any case, and 0 is no line's
     let line = word(&rt, 1, &mut digits).and_then(line_of).unwrap_or(0);
     let cpf = word(&rt, 2, &mut cpf).unwrap_or(&[]);
-    // a read that fails ends the file: the check says what is missing of it
-    let count = match input::read_all(&mut rt.reader(), &mut file) {
-        Ok(count) => count,
-        Err(failed) => failed.count,
-    };
+    // where a read fails, the bytes that came are checked: of a whole file nothing is missing then, and of another the check says so
+    let count = input::read_all(&mut rt.reader(), &mut file).unwrap_or_else(|failed| failed.count);
     if BYTES < count {
         // nothing on standard output: nothing there may be taken for acceptance
         return eprintln!(rt; "lookup: the file is too long");
