@@ -2,6 +2,8 @@
 // CPF is looked for below that IDREC. Prints the check's number, line and field, then the search's number, line and count.
 #![tactic(auto)]
 
+ghost use Rattle.std.specs.Prelude.{◌≤◌, ◌<◌, length, IfSome};
+
 use std::io;
 use std::rt::Env;
 
@@ -30,7 +32,9 @@ impl Question<'_> {
 }
 
 // The value of a digit.
-fn digit(b: u8) -> Option<u32> {
+fn digit(b: u8) -> Option<u32>
+    ensures { IfSome result (λ value. value < 10) }
+{
     char::from(b).to_digit(10)
 }
 
@@ -43,7 +47,9 @@ fn line_of(word: &[u8]) -> Option<u32> {
 }
 
 // Word i of the command, where there is one and the space holds it.
-fn word<'a>(rt: &impl Env, i: usize, space: &'a mut [u8]) -> Option<&'a [u8]> {
+fn word<'a>(rt: &impl Env, i: usize, space: &'a mut [u8]) -> Option<&'a [u8]>
+    ensures { IfSome result (λ word. length word.now ≤ length space.old) }
+{
     let count = rt.arg(i, space).ok()?;
     Some(&space[..count])
 }
