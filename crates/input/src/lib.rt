@@ -30,6 +30,7 @@ pub fn read_all<R: Read>(input: &mut R, buf: &mut [u8]) -> Result<usize, ReadFai
     ensures short_where_failed { IfErr result (λ failed. failed.count < length buf.new) }
 {
     let mut done = 0;
+    // std's `read_exact` does not say how many bytes came before a failure, and reads on where a signal cuts a read short
     while done < buf.len() {
         match input.read(&mut buf[done..]) {
             Ok(0) => return Ok(done),

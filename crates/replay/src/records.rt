@@ -17,7 +17,7 @@ pub fn read_edition(input: &mut impl Read) -> Result<Edition, BadCase> {
     }
 }
 
-pub fn replay_line(rt: &impl Print, input: &mut impl Read, e: Edition) -> Result<(), Stop> {
+pub fn replay_line(rt: &impl Print, input: &mut impl Read, edition: Edition) -> Result<(), Stop> {
     let mut room = [0u8; ROOM];
     let mut bytes = [0u8; BYTES];
     let mut numbers = [0usize; LENGTHS];
@@ -26,7 +26,7 @@ pub fn replay_line(rt: &impl Print, input: &mut impl Read, e: Edition) -> Result
     let contents = read_bytes(input, &mut bytes)?;
     let lengths = read_list(input, &mut numbers)?;
     pattern::fill(out);
-    let written = writer::write_line(e, kind, contents, lengths, out);
+    let written = writer::write_line(edition, kind, contents, lengths, out);
     let count = written.count;
     println!(rt;
         "{} {} {}",
