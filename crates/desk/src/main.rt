@@ -41,11 +41,9 @@ fn print_answer(rt: &impl Print, a: Answer) -> io::Result<()> {
 // One byte more than the longest file that is checked, so that a longer one is seen to be longer.
 fn main(rt: HostRuntime) -> io::Result<()> {
     let mut buf = [0u8; BYTES + 1];
-    let got = input::read_all(&mut rt.reader(), &mut buf);
-    if got.failed {
+    let Ok(count) = input::read_all(&mut rt.reader(), &mut buf) else {
         // nothing on standard output: nothing there may be taken for acceptance
         return eprintln!(rt; "desk: standard input cannot be read");
-    }
-    let n = got.len;
-    print_answer(&rt, desk_answer(&buf[..n]))
+    };
+    print_answer(&rt, desk_answer(&buf[..count]))
 }

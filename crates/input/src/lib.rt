@@ -1,50 +1,42 @@
 // Reading an input until it ends or the space is full: what the programs read goes through here.
 #![tactic(auto)]
 
-ghost use Rattle.std.specs.Prelude.{◌≤◌, length};
+ghost use Rattle.std.specs.Prelude.{◌≡◌, ◌≤◌, ◌<◌, length, take, IfOk, IfErr};
+ghost use Rattle.std.specs.Io.KnownBytes.{Consumes, IsAtEnd, ReadConsumes};
+ghost use Rattle.input.specs.Reading.{count_of};
 
 use std::io::Read;
 
-// How reading went: whether a read failed, and how many bytes came.
-#[derive(Clone, Copy)]
-pub struct Got {
-    pub failed: bool,
-    pub len: usize,
+// A read failed, after so many bytes had come.
+#[derive(Clone, Copy, Debug)]
+pub struct ReadFailed {
+    pub count: usize,
 }
 
-// One read: no byte at the end of the input, and none where the read fails.
-pub fn read_some<R: Read>(input: &mut R, buf: &mut [u8]) -> Got
-    ensures { result.len ≤ length buf.new }
+// One read: how many bytes came, none only at the end of the input or where there is no room. Nothing says when a read fails.
+pub fn read_some<R: Read>(input: &mut R, buf: &mut [u8]) -> Result<usize, ReadFailed>
+    ensures within { count_of result ≤ length buf.new }
+    ensures bytes { ReadConsumes (R.remaining input.old) (R.remaining input.new) result buf.new }
+    ensures none_where_failed { IfErr result (λ failed. failed ≡ record { count = 0 }) }
 {
-    match input.read(buf) {
-        Ok(n) => Got {
-            failed: false,
-            len: n,
-        },
-        Err(_) => Got {
-            failed: true,
-            len: 0,
-        },
-    }
+    input.read(buf).map_err(|_| ReadFailed { count: 0 })
 }
 
 // Reads until the input ends, a read fails or the buffer is full: a pipe may give any pieces.
-pub fn read_all<R: Read>(input: &mut R, buf: &mut [u8]) -> Got
-    ensures { result.len ≤ length buf.new }
+pub fn read_all<R: Read>(input: &mut R, buf: &mut [u8]) -> Result<usize, ReadFailed>
+    ensures within { count_of result ≤ length buf.new }
+    ensures bytes { Consumes (R.remaining input.old) (R.remaining input.new) (take (count_of result) buf.new) }
+    ensures short_at_end { IfOk result (λ count. count < length buf.new → IsAtEnd (R.remaining input.new)) }
+    ensures short_where_failed { IfErr result (λ failed. failed.count < length buf.new) }
 {
     let mut done = 0;
+    // std's `read_exact` does not say how many bytes came before a failure, and reads on where a signal cuts a read short
     while done < buf.len() {
-        let some = read_some(input, &mut buf[done..]);
-        if some.len == 0 {
-            return Got {
-                failed: some.failed,
-                len: done,
-            };
+        match input.read(&mut buf[done..]) {
+            Ok(0) => return Ok(done),
+            Ok(count) => done += count,
+            Err(_) => return Err(ReadFailed { count: done }),
         }
-        done += some.len;
     }
-    Got {
-        failed: false,
-        len: done,
-    }
+    Ok(done)
 }

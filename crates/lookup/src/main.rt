@@ -2,7 +2,7 @@
 // CPF is looked for below that IDREC. Prints the check's number, line and field, then the search's number, line and count.
 #![tactic(auto)]
 
-ghost use Rattle.std.specs.Prelude.{◌≤◌, length};
+ghost use Rattle.std.specs.Prelude.{◌≤◌, ◌<◌, length, IfSome};
 
 use std::io;
 use std::rt::Env;
@@ -12,94 +12,68 @@ const BYTES: usize = 4194304;
 
 const LINES: usize = 65536;
 
-// The value of a digit; 10 where it is none.
-fn digit(b: u8) -> u64
-    ensures { result ≤ 10 }
-{
-    if b < b'0' {
-        return 10;
-    }
-    if b'9' < b {
-        return 10;
-    }
-    (b - b'0') as u64
-}
-
-// The word of digits as a number; 0, which is no line, where it is none, or none of 32 bits.
-fn line_of(word: &[u8]) -> u32 {
-    let mut n = 0;
-    let mut i = 0;
-    while i < word.len() {
-        let d = digit(word[i]);
-        if d == 10 {
-            return 0;
-        }
-        n = n * 10 + d;
-        if n > 4294967295 {
-            return 0;
-        }
-        i += 1;
-    }
-    n as u32
-}
-
-// Word i of the command, at the start of the buffer: how many bytes it has; 0 where there is none, or one that is longer than the buffer.
-fn word(rt: &impl Env, i: usize, buf: &mut [u8]) -> usize
-    ensures { result ≤ length buf.new }
-{
-    match rt.arg(i, buf) {
-        Ok(n) => n,
-        Err(_) => 0,
-    }
-}
-
-// The check fills the table, and the search is lent the entries of the lines that were read.
-fn look_up(
-    rt: &impl Print,
-    file: &[u8],
-    table: &mut [u32],
+// What a search is asked: the person of a CPF in this file, below the IDREC of a line.
+#[derive(Clone, Copy)]
+struct Question<'a> {
+    file: &'a [u8],
     line: u32,
-    cpf: &[u8],
-) -> io::Result<()> {
-    let a = checker::check(file, table);
-    let number = a.number;
-    let at = a.line;
-    let field = a.field;
-    println!(rt; "{number} {at} {field}")?;
-    let s = search::search(file, search::entries(table, a.entries), line, cpf);
-    let number = s.number;
-    let at = s.line;
-    let count = s.count;
-    println!(rt; "{number} {at} {count}")
+    cpf: &'a [u8],
 }
 
-// One byte more than the longest file, so that a longer one is seen to be longer. Each in a function of its own, so that no proof works out
-// a list of that length.
-fn space_for_file() -> [u8; BYTES + 1] {
-    [0; BYTES + 1]
+impl Question<'_> {
+    // The check fills the table, and the search is lent the entries of the lines that were read.
+    fn look_up(&self, rt: &impl Print, table: &mut [u32]) -> io::Result<()> {
+        let checked = checker::check(self.file, table);
+        println!(rt; "{} {} {}", checked.number, checked.line, checked.field)?;
+        let entries = search::entries(table, checked.entries);
+        let found = search::search(self.file, entries, self.line, self.cpf);
+        println!(rt; "{} {} {}", found.number, found.line, found.count)
+    }
 }
 
-fn space_for_table() -> [u32; LINES * checker::NUMBERS_AN_ENTRY] {
-    [0; LINES * checker::NUMBERS_AN_ENTRY]
+// The value of a digit.
+fn digit(b: u8) -> Option<u32>
+    ensures { IfSome result (λ value. value < 10) }
+{
+    char::from(b).to_digit(10)
+}
+
+// The word of digits as a number of 32 bits.
+fn line_of(word: &[u8]) -> Option<u32> {
+    word.iter().try_fold(
+        0u32,
+        |line, &b| line.checked_mul(10)?.checked_add(digit(b)?),
+    )
+}
+
+// Word i of the command, where there is one and the space holds it.
+fn word<'a>(rt: &impl Env, i: usize, space: &'a mut [u8]) -> Option<&'a [u8]>
+    ensures { IfSome result (λ word. length word.now ≤ length space.old) }
+{
+    let count = rt.arg(i, space).ok()?;
+    Some(&space[..count])
+}
+
+// A function of its own, since a proof over lists of these lengths in `main` works them out, and runs out of stack.
+fn zeros<T: Copy + Default, const N: usize>() -> [T; N] {
+    [T::default(); N]
 }
 
 fn main(rt: HostRuntime) -> io::Result<()> {
     let mut digits = [0u8; 16];
     let mut cpf = [0u8; 64];
-    let mut file = space_for_file();
-    let mut table = space_for_table();
-    let count = word(&rt, 1, &mut digits);
-    let bytes = word(&rt, 2, &mut cpf);
-    let len = input::read_all(&mut rt.reader(), &mut file).len;
-    if BYTES < len {
+    // one byte more than the longest file, so that a longer one is seen to be longer
+    let mut file: [u8; BYTES + 1] = zeros();
+    let mut table: [u32; LINES * checker::NUMBERS_AN_ENTRY] = zeros();
+    // the search takes a number in any case, and 0 is no line's
+    let line = word(&rt, 1, &mut digits).and_then(line_of).unwrap_or(0);
+    let cpf = word(&rt, 2, &mut cpf).unwrap_or(&[]);
+    // where a read fails, the bytes that came are checked: of a whole file nothing is missing then, and of another the check says so
+    let count = input::read_all(&mut rt.reader(), &mut file).unwrap_or_else(|failed| failed.count);
+    if BYTES < count {
         // nothing on standard output: nothing there may be taken for acceptance
         return eprintln!(rt; "lookup: the file is too long");
     }
-    look_up(
-        &rt,
-        &file[..len],
-        &mut table,
-        line_of(&digits[..count]),
-        &cpf[..bytes],
-    )
+    let file = &file[..count];
+    Question { file, line, cpf }.look_up(&rt, &mut table)
 }

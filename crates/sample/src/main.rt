@@ -4,37 +4,69 @@
 use editions::Edition;
 use std::io;
 
-// Writes one line: the contents of its fields one after another, and their lengths. Of a refused line nothing is written.
-fn put(
-    rt: &(impl Print + Eprint),
+// A line to be written: its kind, as docs/KINDS.md has it, the contents of its fields one after another, and their lengths.
+#[derive(Clone, Copy)]
+struct Line<'a> {
     kind: u32,
-    contents: &[u8],
-    lengths: &[usize],
-) -> io::Result<()> {
-    let mut line = [0u8; 1026];
-    let written = writer::write_line(Edition::Of2025, kind, contents, lengths, &mut line);
-    if written.number != 0 {
-        return eprintln!(rt; "sample: a line was refused");
-    }
-    rt.write_all(fields::part(&line, 0, written.count))
+    contents: &'a [u8],
+    lengths: &'a [usize],
 }
 
-// The kinds are those of docs/KINDS.md.
+impl Line<'_> {
+    // Of a refused line nothing is written, and the next one follows.
+    fn put(&self, rt: &(impl Print + Eprint)) -> io::Result<()> {
+        let mut out = [0u8; 1026];
+        let written = writer::write_line(
+            Edition::Of2025,
+            self.kind,
+            self.contents,
+            self.lengths,
+            &mut out,
+        );
+        if written.number != 0 {
+            return eprintln!(rt; "sample: a line was refused");
+        }
+        rt.write_all(fields::part(&out, 0, written.count))
+    }
+}
+
+// The six lines in their order.
+const LINES: [Line; 6] = [
+    Line {
+        kind: 1,
+        contents: b"Dirf20252024NR6GP3ZA",
+        lengths: &[4, 4, 4, 1, 0, 7],
+    },
+    Line {
+        kind: 2,
+        contents: b"RESPO11144477735ANA LIMA1133334444",
+        lengths: &[5, 11, 8, 2, 8, 0, 0, 0],
+    },
+    Line {
+        kind: 3,
+        contents: b"DECPF11144477735ANA LIMANNNSNN",
+        lengths: &[5, 11, 8, 1, 1, 1, 1, 1, 0, 0, 1, 0, 0, 0, 0],
+    },
+    Line {
+        kind: 59,
+        contents: b"SCP11222333000181SCP SERRA",
+        lengths: &[3, 14, 9],
+    },
+    Line {
+        kind: 60,
+        contents: b"BPFSCP11144477735ANA LIMA",
+        lengths: &[6, 11, 8, 0],
+    },
+    Line {
+        kind: 73,
+        contents: b"FIMDirf",
+        lengths: &[7],
+    },
+];
+
 fn main(rt: HostRuntime) -> io::Result<()> {
-    put(&rt, 1, b"Dirf20252024NR6GP3ZA", &[4, 4, 4, 1, 0, 7])?;
-    put(
-        &rt,
-        2,
-        b"RESPO11144477735ANA LIMA1133334444",
-        &[5, 11, 8, 2, 8, 0, 0, 0],
-    )?;
-    put(
-        &rt,
-        3,
-        b"DECPF11144477735ANA LIMANNNSNN",
-        &[5, 11, 8, 1, 1, 1, 1, 1, 0, 0, 1, 0, 0, 0, 0],
-    )?;
-    put(&rt, 59, b"SCP11222333000181SCP SERRA", &[3, 14, 9])?;
-    put(&rt, 60, b"BPFSCP11144477735ANA LIMA", &[6, 11, 8, 0])?;
-    put(&rt, 73, b"FIMDirf", &[7])
+    for line in &LINES {
+        line.put(&rt)?;
+    }
+    Ok(())
 }

@@ -1,9 +1,13 @@
--- What was read so far lies within the buffer, and a turn that goes on leaves less of it.
-use Rattle.std.proofs.Common.{length, ◌-◌, ◌≤◌}
+-- What was read so far lies within the buffer and is what the input gave up, and a turn that goes on leaves less of it.
+use Rattle.std.proofs.Common.{◌≡◌, length, ◌-◌, ◌≤◌, take}
+use Rattle.std.specs.Io.KnownBytes.{Consumes}
 use Rattle.input.proofs.read_all.Given as goal
 
 abbrev pub invariant-loop-done : goal.invariant-loop-done
-invariant-loop-done g l = l.done ≤ length l.buf
+invariant-loop-done g l =
+    (length l.buf ≡ length l.initial.buf)
+    × (l.done ≤ length l.buf)
+    × Consumes (g.R.Read.remaining l.initial.input) (g.R.Read.remaining l.input) (take l.done l.buf)
 
 abbrev pub decreases-loop-done : goal.decreases-loop-done
 decreases-loop-done g l = length l.initial.buf - l.done

@@ -1,6 +1,0 @@
--- Byte by byte.
-use Rattle.std.proofs.Common.{length, ◌-◌}
-use Rattle.replay.proofs.bytes_kept.Given as goal
-
-abbrev pub decreases-loop-i : goal.decreases-loop-i
-decreases-loop-i l = length l.out - l.i

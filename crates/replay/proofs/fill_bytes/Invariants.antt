@@ -1,6 +1,0 @@
--- Byte by byte.
-use Rattle.std.proofs.Common.{length, ◌-◌}
-use Rattle.replay.proofs.fill_bytes.Given as goal
-
-abbrev pub decreases-loop-i : goal.decreases-loop-i
-decreases-loop-i l = length l.initial.out - l.i

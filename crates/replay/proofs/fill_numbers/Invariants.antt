@@ -1,6 +1,0 @@
--- Number by number.
-use Rattle.std.proofs.Common.{length, ◌-◌}
-use Rattle.replay.proofs.fill_numbers.Given as goal
-
-abbrev pub decreases-loop-i : goal.decreases-loop-i
-decreases-loop-i l = length l.initial.table - l.i

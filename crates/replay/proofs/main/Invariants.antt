@@ -1,5 +1,0 @@
--- A turn less each time.
-use Rattle.replay.proofs.main.Given as goal
-
-abbrev pub decreases-loop-turns : goal.decreases-loop-turns
-decreases-loop-turns l = l.turns
