@@ -14,7 +14,6 @@ use Rattle.fields.specs.Places.{part_of, key_parts}
 use Rattle.kinds.specs.Kinds.{kinds}
 use Rattle.layout.specs.Tables.{holds_in}
 use Rattle.checker.specs.declared.state.Path.{Path}
-use Rattle.checker.specs.declared.state.Past.{Past}
 use Rattle.checker.specs.declared.state.Last.{Last}
 use Rattle.checker.specs.declared.state.State.{State}
 
@@ -28,12 +27,19 @@ start_state =
       path = record { depth = 0; lines = replicate deepest 0; kinds = replicate deepest 0 };
     }
 
-unfoldable pub start_past : Past
-start_past = record { under = replicate kinds 0; starts = replicate kinds 0; lens = replicate kinds 0 }
+-- what is remembered of each kind
+abbrev pub Past : Type 0
+Past = List Last
 
--- what the past has of one kind
+-- no record of a kind was read
+abbrev pub no_last : Last
+no_last = record { under = 0; start = 0; len = 0 }
+
+unfoldable pub start_past : Past
+start_past = replicate kinds no_last
+
 unfoldable pub last_in : Past → ℕ → Last
-last_in past k = record { under = get_or past.under k 0; start = get_or past.starts k 0; len = get_or past.lens k 0 }
+last_in past k = get_or past k no_last
 
 -- of the open records' lines or kinds, the one of what open record i belongs to
 unfoldable pub above : List ℕ → ℕ → ℕ
@@ -94,8 +100,7 @@ path_after p k d n =
     else record { depth = d + 1; lines = set p.lines d n; kinds = set p.kinds d k }
 
 unfoldable pub past_after : Past → ℕ → ℕ → ℕ → ℕ → Past
-past_after p k parent start len =
-    record { under = set p.under k parent; starts = set p.starts k start; lens = set p.lens k len }
+past_after p k parent start len = set p k (record { under = parent; start = start; len = len })
 
 -- after a line of so many bytes that was taken
 unfoldable pub state_after : State → ℕ → ℕ → ℕ → State

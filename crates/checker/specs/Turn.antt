@@ -1,5 +1,5 @@
 -- One line over the state, with the edition and the lent tables, part by part in document 01's order.
-use Rattle.std.specs.Prelude.{ℕ, ◌+◌, ◌≤◌, ◌<◌, true, false, not, List, eqb, leb, length, get_or, drop, if◌then◌else◌}
+use Rattle.std.specs.Prelude.{ℕ, ◌+◌, ◌≤◌, ◌<◌, true, false, not, Result, Ok, Err, List, eqb, leb, length, get_or, drop, if◌then◌else◌}
 use Rattle.dirf.specs.Bytes.{Text, ends_with}
 use Rattle.dirf.specs.Limits.{bar, line_limit, lines_limit}
 use Rattle.dirf.specs.Edition.{Edition, kind_of}
@@ -7,11 +7,13 @@ use Rattle.dirf.specs.Lines.{clean}
 use Rattle.dirf.specs.FieldReader.{field_of}
 use Rattle.dirf.specs.Rules.{Found, keeps, breaks, given, or_else}
 use Rattle.dirf.specs.Theorems.Belongs.{deepest}
-use Rattle.fields.specs.Places.{part_of, places_of, cell_at, cells_at}
+use Rattle.fields.specs.Places.{part_of, no_place, places_of, cell_at, cells_at}
 use Rattle.fields.specs.declared.Places.{Places}
 use Rattle.kinds.specs.Kinds.{kinds}
 use Rattle.layout.specs.Tables.{count_in, rows_in}
 use Rattle.rules.specs.Findings.{contents_found}
+use Rattle.refusals.specs.declared.Breach.{Breach}
+use Rattle.refusals.specs.Numbers.{number_for}
 use Rattle.checker.specs.Lines.{number_at}
 use Rattle.checker.specs.State.{above, held_at, place_found, look_found, Safe}
 use Rattle.checker.specs.declared.Answer.{Answer}
@@ -19,7 +21,6 @@ use Rattle.checker.specs.declared.state.Last.{Last}
 use Rattle.checker.specs.declared.state.State.{State}
 use Rattle.checker.specs.declared.turn.Entry.{Entry}
 use Rattle.checker.specs.declared.turn.Record.{Record}
-use Rattle.checker.specs.declared.turn.Stepped.{Stepped}
 
 -- what a record that is read needs of the state
 pub record Fits (st : State) (r : Record) : Type 0 where
@@ -32,14 +33,17 @@ pub record Fits (st : State) (r : Record) : Type 0 where
 abbrev pub refused_at : ℕ → ℕ → ℕ → Answer
 refused_at count number f = record { number = number; line = count + 1; field = f; entries = count }
 
-abbrev pub halt_at : Answer → Stepped
-halt_at a = record { stop = true; answer = a; read = record { kind = 0; outer = 0; len = 0; start2 = 0; len2 = 0; start3 = 0; len3 = 0 } }
+-- a turn stops with an answer, or has read a record that keeps every rule but 21, 20 and 7
+abbrev pub Stepped : Type 0
+Stepped = Result Record Answer
 
 abbrev pub halt : State → ℕ → ℕ → Stepped
-halt st number f = halt_at (refused_at st.count number f)
+halt st number f = Err (refused_at st.count number f)
 
-abbrev pub went : Record → Stepped
-went r = record { stop = false; answer = record { number = 0; line = 0; field = 0; entries = 0 }; read = r }
+-- what a step of a turn comes to, after the lines that the state has
+abbrev pub stepped : State → Result Record Breach → Stepped
+stepped st (Ok r) = Ok r
+stepped st (Err b) = halt st (number_for b.refusal) b.field
 
 -- what is found stops the turn
 unfoldable pub found_step : State → Found → Stepped → Stepped
@@ -51,7 +55,7 @@ unfoldable pub looked_found : Text → State → Record → Last → Found
 looked_found file st r last =
     let line = part_of file st.at r.len in
     look_found file last r.kind (above st.path.lines r.outer)
-    (part_of line r.start2 r.len2) (part_of line r.start3 r.len3)
+    (part_of line r.second.start r.second.len) (part_of line r.third.start r.third.len)
 
 -- the entry of a record that is taken
 unfoldable pub entry_of : State → Record → Entry
@@ -65,7 +69,7 @@ filled_found rows line p k =
 -- 9, 10 and 12, then those
 unfoldable pub read_step : List ℕ → Text → State → Places → Record → Stepped
 read_step rows line st p r =
-    found_step st (place_found st r.kind r.outer) (found_step st (filled_found rows line p r.kind) (went r))
+    found_step st (place_found st r.kind r.outer) (found_step st (filled_found rows line p r.kind) (Ok r))
 
 -- a line as a record: its kind by its identifier, and its place by its kind
 unfoldable pub record_of : Edition → List (List ℕ) → Text → State → Places → Record
@@ -75,10 +79,8 @@ record_of e below line st p =
       kind = k;
       outer = held_at below st k;
       len = length line;
-      start2 = get_or p.starts 1 0;
-      len2 = get_or p.lens 1 0;
-      start3 = get_or p.starts 2 0;
-      len3 = get_or p.lens 2 0;
+      second = get_or p.first 1 no_place;
+      third = get_or p.first 2 no_place;
     }
 
 -- 8
@@ -97,7 +99,7 @@ line_step e rows below file st =
 unfoldable pub turn_of : Edition → List ℕ → List (List ℕ) → Text → State → Stepped
 turn_of e rows below file st =
     if leb (length file) st.at
-    then (if st.done then halt_at (record { number = 0; line = st.count; field = 0; entries = st.count }) else halt st 1 0)
+    then (if st.done then Err (record { number = 0; line = st.count; field = 0; entries = st.count }) else halt st 1 0)
     else (if st.done then halt st 2 0
     else (if leb lines_limit st.count then halt st 3 0
     else line_step e rows below file st))

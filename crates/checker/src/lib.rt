@@ -21,6 +21,7 @@ ghost use Rattle.checker.specs.Answers.{answer_of, table_after, entry_of_code, p
 
 use editions::Edition;
 use layout::{COLUMNS, HOLDERS, ROW_BYTES};
+use refusals::{Breach, Refusal};
 use state::{DEPTH, Last};
 use turn::Entry;
 
@@ -48,11 +49,7 @@ fn put_numbers(table: &mut [u32], i: usize, row: &[u32])
     requires { i + length row.now ≤ length table.old }
     ensures { table.new ≡ sets table.old i row.now }
 {
-    let mut j = 0;
-    while j < row.len() {
-        table[i + j] = row[j];
-        j += 1;
-    }
+    table[i..i + row.len()].copy_from_slice(row);
 }
 
 // Entry n of the table, from 0, if the table holds it whole.
@@ -86,10 +83,8 @@ fn put_lasts(table: &mut [u32], lines: [u32; DEPTH], outer: usize, own: u32)
     if table.len() < NUMBERS_AN_ENTRY {
         return;
     }
-    let mut i = outer;
-    while 0 < i {
-        i -= 1;
-        put_last(table, lines[i], own);
+    for &line in lines[..outer].iter().rev() {
+        put_last(table, line, own);
     }
 }
 
@@ -120,34 +115,28 @@ fn walk(
     let mut st = state::start();
     let mut past = state::nothing();
     loop {
-        let s = turn::turn(e, rows, below, file, st);
-        if s.stop {
-            return s.answer;
-        }
-        let r = s.read;
-        let i = r.kind as usize;
-        let last = Last {
-            under: past.under[i],
-            start: past.starts[i],
-            len: past.lens[i],
+        let r = match turn::turn(e, rows, below, file, st) {
+            Ok(r) => r,
+            Err(answer) => return answer,
         };
-        let f = turn::looked(file, st, r, last);
-        if f.number != 0 {
-            return turn::refused(st.count, f.number, f.field);
+        let i = r.kind as usize;
+        let found = turn::looked(file, st, r, past[i]);
+        if let Err(breach) = found {
+            return turn::refused(st.count, breach);
         }
         if room <= st.count as usize {
-            return turn::refused(st.count, 7, 0);
+            return turn::refused(st.count, Breach::from(Refusal::FullTable));
         }
         let entry = turn::entry_of(st, r);
         let own = st.count + 1;
-        let row = entry_numbers(entry, own);
-        put_entry(table, st.count, &row);
+        put_entry(table, st.count, &entry_numbers(entry, own));
         let path = st.path;
-        let lines = path.lines;
-        put_lasts(table, lines, r.outer, own);
-        past.under[i] = entry.parent;
-        past.starts[i] = entry.start;
-        past.lens[i] = entry.len;
+        put_lasts(table, path.lines, r.outer, own);
+        past[i] = Last {
+            under: entry.parent,
+            start: entry.start,
+            len: entry.len,
+        };
         totals::add_record(totals, file, st.at, r);
         st = state::state_after(st, r.kind, r.outer, r.len);
     }

@@ -3,7 +3,10 @@ ghost use Rattle.std.specs.Prelude.{◌≡◌, length, drop};
 ghost use Rattle.dirf.specs.Bytes.{ends_with};
 ghost use Rattle.dirf.specs.Limits.{bar};
 ghost use Rattle.dirf.specs.Lines.{clean};
+ghost use Rattle.refusals.specs.Numbers.{number_said};
 ghost use Rattle.checker.specs.Lines.{end_of, number_at, after_line};
+
+use refusals::Refusal;
 
 // Document 01: "A line is 0 to 1,024 bytes followed by CR LF."
 const LINE_BYTES: usize = 1024;
@@ -15,44 +18,35 @@ pub(crate) fn tail(s: &[u8], start: usize) -> &[u8]
     fields::part(s, start, s.len())
 }
 
-// What ends a line: 0 for CR LF, else 5 or 6.
-fn end_of(u: &[u8]) -> u32
-    ensures { result ≡ end_of u.now }
+// What ends a line: CR LF, or 5 or 6.
+#[tactic(auto, using(crate::proofs::lines::NextLine::ended, std::proofs::lemmas::Bool::Decides::nat_tests))]
+fn end_of(u: &[u8]) -> Result<(), Refusal>
+    ensures { number_said result ≡ end_of u.now }
 {
-    if u.len() <= 0 {
-        return 5;
+    match u {
+        [b'\n', ..] => Err(Refusal::WrongLineEnd),
+        [] | [_] => Err(Refusal::CutOffLine),
+        [_, b'\n', ..] => Ok(()),
+        _ => Err(Refusal::WrongLineEnd),
     }
-    if u[0] == 10 {
-        return 6;
-    }
-    if u.len() <= 1 {
-        return 5;
-    }
-    if u[1] == 10 {
-        return 0;
-    }
-    6
 }
 
-// 4, 5 or 6 of the line at the front of a text, which has n bytes; else 0.
-pub(crate) fn number_at(s: &[u8], n: usize) -> u32
+// 4, 5 or 6 of the line at the front of a text, which has n bytes.
+pub(crate) fn number_at(s: &[u8], n: usize) -> Result<(), Refusal>
     requires { n ≡ length (clean s.now) }
-    ensures { result ≡ number_at s.now }
+    ensures { number_said result ≡ number_at s.now }
 {
     if LINE_BYTES < n {
-        return 4;
+        return Err(Refusal::LongLine);
     }
     end_of(tail(s, n))
 }
 
+#[tactic(auto, using(crate::proofs::lines::NextLine::last_lem, std::proofs::lemmas::Bool::Decides::nat_tests))]
 pub(crate) fn ends_in_bar(s: &[u8]) -> bool
     ensures { result ≡ ends_with bar s.now }
 {
-    if s.len() <= 0 {
-        return false;
-    }
-    let i = s.len() - 1;
-    s[i] == 124
+    matches!(s, [.., b'|'])
 }
 
 // What stands behind the line at the front of a text, and behind the two bytes that end it.

@@ -3,13 +3,13 @@
 ghost use Rattle.std.specs.Prelude.{◌≡◌, ◌≤◌};
 ghost use Rattle.dirf.specs.Limits.{line_limit};
 ghost use Rattle.dirf.specs.Theorems.Belongs.{deepest};
-ghost use Rattle.rules.specs.Findings.{finding_of};
+ghost use Rattle.refusals.specs.Numbers.{found_said};
 ghost use Rattle.checker.specs.State.{start_state, above as above_of, held_in, held_at, order_at, below_on, stands_on, place_found};
 ghost use Rattle.checker.specs.State.{start_past, repeated_on, key_on, look_found, declarant_of, path_after, Safe, state_after};
 
 use kinds::KINDS;
 use layout::{COLUMNS, HOLDERS};
-use rules::Finding;
+use refusals::{Breach, Refusal};
 
 // How deep records stand open: the declarant, a block, an IDREC, a beneficiary, an INFPC or INFPA.
 pub(crate) const DEPTH: usize = 5;
@@ -25,15 +25,7 @@ pub(crate) struct Path {
     pub(crate) kinds: [u32; DEPTH],
 }
 
-// By kind: the parent's line under which it stood last, and where that line of it stands. Nothing here is ever cleared.
-#[derive(Clone, Copy)]
-pub(crate) struct Past {
-    pub(crate) under: [u32; KINDS],
-    pub(crate) starts: [u32; KINDS],
-    pub(crate) lens: [u32; KINDS],
-}
-
-// What the past has of one kind.
+// The parent's line under which a kind stood last, and where that line of it stands. Nothing of it is ever cleared.
 #[derive(Clone, Copy)]
 pub(crate) struct Last {
     pub(crate) under: u32,
@@ -68,14 +60,15 @@ pub(crate) fn start() -> State
     }
 }
 
-pub(crate) fn nothing() -> Past
+// What is remembered of each kind, before the first record.
+pub(crate) fn nothing() -> [Last; KINDS]
     ensures { result ≡ start_past }
 {
-    Past {
-        under: [0; KINDS],
-        starts: [0; KINDS],
-        lens: [0; KINDS],
-    }
+    [Last {
+        under: 0,
+        start: 0,
+        len: 0,
+    }; KINDS]
 }
 
 // Of the open records' lines or kinds, the one of what open record j belongs to.
@@ -96,14 +89,10 @@ fn held_in(below: &[[u8; COLUMNS]; HOLDERS], declarant: u32, path: Path, k: u32)
     ensures { (result ≡ held_in below.now declarant path.kinds k path.depth) × (result ≤ deepest) }
 {
     let kinds = path.kinds;
-    let mut i = path.depth;
-    while 0 < i {
-        let j = i - 1;
-        let h = kinds[j];
-        if layout::may_hold(below, declarant, h, above(kinds, j), k) {
-            return i;
+    for i in (0..path.depth).rev() {
+        if layout::may_hold(below, declarant, kinds[i], above(kinds, i), k) {
+            return i + 1;
         }
-        i = j;
     }
     0
 }
@@ -125,15 +114,15 @@ fn order_at(path: Path, k: u32, d: usize) -> bool
     requires { path.depth ≤ deepest }
     ensures { result ≡ order_at path k d }
 {
-    if d < path.depth {
-        let last = path.kinds[d];
-        return match last {
-            20 | 29 => true,
-            63 => false,
-            _ => last <= k,
-        };
+    if path.depth <= d {
+        return true;
     }
-    true
+    let last = path.kinds[d];
+    match last {
+        20 | 29 => true,
+        63 => false,
+        _ => last <= k,
+    }
 }
 
 // From line 4 on.
@@ -141,13 +130,7 @@ fn stands_below(path: Path, k: u32, d: usize) -> bool
     requires { path.depth ≤ deepest }
     ensures { result ≡ below_on path k d }
 {
-    if k == 73 {
-        return true;
-    }
-    if 0 < d {
-        return order_at(path, k, d);
-    }
-    false
+    k == 73 || 0 < d && order_at(path, k, d)
 }
 
 // May a record of kind k stand here?
@@ -155,66 +138,43 @@ fn stands(st: State, k: u32, d: usize) -> bool
     requires { st.path.depth ≤ deepest }
     ensures { result ≡ stands_on st k d }
 {
-    let n = st.count;
-    let path = st.path;
-    match n {
+    match st.count {
         0 => k == 1,
         1 => k == 2,
-        2 => match k {
-            3..=4 => true,
-            _ => false,
-        },
-        _ => stands_below(path, k, d),
+        2 => k == 3 || k == 4,
+        _ => stands_below(st.path, k, d),
     }
 }
 
 // 9, 10 and 12.
-pub(crate) fn place_found(st: State, k: u32, d: usize) -> Finding
+pub(crate) fn place_found(st: State, k: u32, d: usize) -> Result<(), Breach>
     requires { st.path.depth ≤ deepest }
-    ensures { result ≡ finding_of (place_found st k d) }
+    ensures { found_said result ≡ place_found st k d }
 {
     if k == 0 {
-        return Finding {
-            number: 9,
-            field: 1,
-        };
+        return Err(Refusal::UnknownRecord.at(1));
     }
     if kinds::is_later(k) {
-        return Finding {
-            number: 10,
-            field: 1,
-        };
+        return Err(Refusal::LeftForLater.at(1));
     }
-    if stands(st, k, d) {
-        return Finding {
-            number: 0,
-            field: 0,
-        };
+    if !stands(st, k, d) {
+        return Err(Refusal::WrongPlace.at(1));
     }
-    Finding {
-        number: 12,
-        field: 1,
-    }
+    Ok(())
 }
 
 // 21, of a record below line p.
 fn repeated(last: Last, k: u32, p: u32) -> bool
     ensures { result ≡ repeated_on last k p }
 {
-    if kinds::stands_once(k) {
-        return last.under == p;
-    }
-    false
+    kinds::stands_once(k) && last.under == p
 }
 
 // 20, of a record below line p with these fields 2 and 3.
 fn key_bad(text: &[u8], last: Last, k: u32, p: u32, second: &[u8], third: &[u8]) -> bool
     ensures { result ≡ key_on text.now last k p second.now third.now }
 {
-    if fields::key_count(k) == 0 {
-        return false;
-    }
-    if last.under != p {
+    if fields::key_count(k) == 0 || last.under != p {
         return false;
     }
     let line = fields::part(text, last.start as usize, last.len as usize);
@@ -229,25 +189,16 @@ pub(crate) fn look_found(
     p: u32,
     second: &[u8],
     third: &[u8],
-) -> Finding
-    ensures { result ≡ finding_of (look_found text.now last k p second.now third.now) }
+) -> Result<(), Breach>
+    ensures { found_said result ≡ look_found text.now last k p second.now third.now }
 {
     if repeated(last, k, p) {
-        return Finding {
-            number: 21,
-            field: 1,
-        };
+        return Err(Refusal::Repeated.at(1));
     }
     if key_bad(text, last, k, p, second, third) {
-        return Finding {
-            number: 20,
-            field: 2,
-        };
+        return Err(Refusal::KeyNotGreater.at(2));
     }
-    Finding {
-        number: 0,
-        field: 0,
-    }
+    Ok(())
 }
 
 fn declarant_of(st: State, k: u32) -> u32

@@ -12,13 +12,8 @@ use rules::Centavos;
 pub(crate) fn clear(totals: &mut [u64])
     ensures { totals.new ≡ totals_in (λ k. 0) totals.old }
 {
-    let mut k = 0;
-    while k < KINDS {
-        if totals.len() <= k {
-            return;
-        }
-        totals[k] = 0;
-        k += 1;
+    for total in totals.iter_mut().take(KINDS) {
+        *total = 0;
     }
 }
 
@@ -38,11 +33,11 @@ fn sum_of(s: &[u8], n: usize) -> Centavos
     let mut sum: u64 = 0;
     let mut one: u64 = 0;
     let mut left = n;
-    let mut i = 0;
-    while 0 < left {
-        let b = s[i];
-        i += 1;
-        if b == 124 {
+    for &b in s {
+        if left == 0 {
+            break;
+        }
+        if b == b'|' {
             sum += one;
             one = 0;
             left -= 1;
@@ -71,7 +66,7 @@ pub(crate) fn add_record(totals: &mut [u64], file: &[u8], at: usize, r: Record)
         ≡ add_at totals.old r.kind (line_sum r.kind (part_of file.now at r.len)) }
 {
     // a check without totals spends no more on a line
-    if totals.len() == 0 {
+    if totals.is_empty() {
         return;
     }
     let n = kinds::amount_count(r.kind);
@@ -79,6 +74,7 @@ pub(crate) fn add_record(totals: &mut [u64], file: &[u8], at: usize, r: Record)
         return;
     }
     let line = fields::part(file, at, r.len);
-    let start = fields::place_of(line, kinds::first_amount(r.kind)).start;
-    add(totals, r.kind, sum_of(lines::tail(line, start), n));
+    if let Some(first) = fields::place_of(line, kinds::first_amount(r.kind)) {
+        add(totals, r.kind, sum_of(lines::tail(line, first.start), n));
+    }
 }

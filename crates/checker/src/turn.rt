@@ -4,17 +4,17 @@ ghost use Rattle.dirf.specs.Limits.{lines_limit};
 ghost use Rattle.dirf.specs.Theorems.Belongs.{deepest};
 ghost use Rattle.kinds.specs.Kinds.{kinds};
 ghost use Rattle.editions.specs.Editions.{edition_said};
-ghost use Rattle.rules.specs.Findings.{finding_of};
+ghost use Rattle.refusals.specs.Numbers.{number_for, found_said};
 ghost use Rattle.checker.specs.State.{Near, Safe};
-ghost use Rattle.checker.specs.Turn.{refused_at, halt_at, halt, went, looked_found, entry_of, Fits, filled_found, record_of};
+ghost use Rattle.checker.specs.Turn.{refused_at, stepped, looked_found, entry_of, Fits, filled_found, record_of};
 ghost use Rattle.checker.specs.Turn.{read_step, record_step, line_step, turn_of};
 
 use crate::state::{Last, State};
 use crate::{Answer, lines, state};
 use editions::Edition;
-use fields::Places;
+use fields::{Cells, Place};
 use layout::{COLUMNS, HOLDERS, ROW_BYTES};
-use rules::Finding;
+use refusals::{Breach, Refusal};
 
 // Document 01: "At most 65,536 lines."
 const LINES: u32 = 65536;
@@ -34,87 +34,33 @@ pub(crate) struct Record {
     pub(crate) kind: u32,
     pub(crate) outer: usize,
     pub(crate) len: usize,
-    pub(crate) start2: usize,
-    pub(crate) len2: usize,
-    pub(crate) start3: usize,
-    pub(crate) len3: usize,
+    pub(crate) second: Place,
+    pub(crate) third: Place,
 }
-
-// A turn stops with an answer, or has read a record that keeps every rule but 21, 20 and 7.
-#[derive(Clone, Copy)]
-pub(crate) struct Stepped {
-    pub(crate) stop: bool,
-    pub(crate) answer: Answer,
-    pub(crate) read: Record,
-}
-
-const NO_RECORD: Record = Record {
-    kind: 0,
-    outer: 0,
-    len: 0,
-    start2: 0,
-    len2: 0,
-    start3: 0,
-    len3: 0,
-};
 
 // A refusal after so many lines.
-pub(crate) fn refused(count: u32, number: u32, field: u32) -> Answer
+pub(crate) fn refused(count: u32, breach: Breach) -> Answer
     requires { count ≤ lines_limit }
-    ensures { result ≡ refused_at count number field }
+    ensures { result ≡ refused_at count (number_for breach.refusal) breach.field }
 {
     Answer {
-        number: number,
+        number: breach.refusal.number(),
         line: count + 1,
-        field: field,
+        field: breach.field,
         entries: count,
     }
 }
 
-fn stop(answer: Answer) -> Stepped
-    ensures { result ≡ halt_at answer }
-{
-    Stepped {
-        stop: true,
-        answer: answer,
-        read: NO_RECORD,
-    }
-}
-
-fn refuse(st: State, number: u32, field: u32) -> Stepped
-    requires { st.count ≤ lines_limit }
-    ensures { result ≡ halt st number field }
-{
-    stop(refused(st.count, number, field))
-}
-
-fn go_on(r: Record) -> Stepped
-    ensures { result ≡ went r }
-{
-    Stepped {
-        stop: false,
-        answer: Answer {
-            number: 0,
-            line: 0,
-            field: 0,
-            entries: 0,
-        },
-        read: r,
-    }
-}
-
 // 21 and 20
-pub(crate) fn looked(file: &[u8], st: State, r: Record, last: Last) -> Finding
+pub(crate) fn looked(file: &[u8], st: State, r: Record, last: Last) -> Result<(), Breach>
     requires { r.outer ≤ deepest }
-    ensures { result ≡ finding_of (looked_found file.now st r last) }
+    ensures { found_said result ≡ looked_found file.now st r last }
 {
-    let at = st.at;
-    let line = fields::part(file, at, r.len);
-    let second = fields::part(line, r.start2, r.len2);
-    let third = fields::part(line, r.start3, r.len3);
+    let line = fields::part(file, st.at, r.len);
+    let second = fields::part(line, r.second.start, r.second.len);
+    let third = fields::part(line, r.third.start, r.third.len);
     let path = st.path;
-    let lines = path.lines;
-    let parent = state::above(lines, r.outer);
+    let parent = state::above(path.lines, r.outer);
     state::look_found(file, last, r.kind, parent, second, third)
 }
 
@@ -135,57 +81,40 @@ pub(crate) fn entry_of(st: State, r: Record) -> Entry
 }
 
 // 11, then 13 to 18 and 26 by field, then 19. The kind was found by field 1, so that is its identifier.
-fn filled_found(rows: &[u8; ROW_BYTES], line: &[u8], p: Places, k: u32) -> Finding
-    ensures { result ≡ finding_of (filled_found rows.now line.now p k) }
+fn filled_found(rows: &[u8; ROW_BYTES], cells: Cells, k: u32) -> Result<(), Breach>
+    ensures { found_said result ≡ filled_found rows.now cells.entry.bytes.now cells.entry.places.now k }
 {
-    if p.count != layout::field_count(rows, k) {
-        return Finding {
-            number: 11,
-            field: 0,
-        };
+    if cells.places.count != layout::field_count(rows, k) {
+        return Err(Breach::from(Refusal::WrongFieldCount));
     }
-    let name = fields::part(line, p.starts[0], p.lens[0]);
-    rules::contents_found(line, p, name, rows, k)
+    rules::contents_found(cells, cells.field(1), rows, k)
 }
 
 // The line as a record: its kind by its identifier, and its place by its kind.
-fn record_of(
-    e: Edition,
-    below: &[[u8; COLUMNS]; HOLDERS],
-    line: &[u8],
-    st: State,
-    p: Places,
-) -> Record
+fn record_of(e: Edition, below: &[[u8; COLUMNS]; HOLDERS], cells: Cells, st: State) -> Record
     requires { st.path.depth ≤ deepest }
-    ensures { (result ≡ record_of (edition_said e) below.now line.now st p)
+    ensures { (result ≡ record_of (edition_said e) below.now cells.entry.bytes.now st cells.entry.places.now)
         × ((result.kind < kinds) × (result.outer ≤ deepest)) }
 {
+    let line = cells.bytes;
     let k = identifiers::kind_of(e, fields::field(line, 1));
     Record {
         kind: k,
         outer: state::held_at(below, st, k),
         len: line.len(),
-        start2: p.starts[1],
-        len2: p.lens[1],
-        start3: p.starts[2],
-        len3: p.lens[2],
+        second: cells.places.first[1],
+        third: cells.places.first[2],
     }
 }
 
 // 9, 10 and 12, then 11, 13 to 19 and 26
-fn read(rows: &[u8; ROW_BYTES], line: &[u8], st: State, p: Places, r: Record) -> Stepped
+fn read(rows: &[u8; ROW_BYTES], cells: Cells, st: State, r: Record) -> Result<Record, Breach>
     requires { Safe st }
-    ensures { result ≡ read_step rows.now line.now st p r }
+    ensures { stepped st result ≡ read_step rows.now cells.entry.bytes.now st cells.entry.places.now r }
 {
-    let f = state::place_found(st, r.kind, r.outer);
-    if f.number != 0 {
-        return refuse(st, f.number, f.field);
-    }
-    let g = filled_found(rows, line, p, r.kind);
-    if g.number != 0 {
-        return refuse(st, g.number, g.field);
-    }
-    go_on(r)
+    state::place_found(st, r.kind, r.outer)?;
+    filled_found(rows, cells, r.kind)?;
+    Ok(r)
 }
 
 // 8
@@ -193,18 +122,18 @@ fn recorded(
     e: Edition,
     rows: &[u8; ROW_BYTES],
     below: &[[u8; COLUMNS]; HOLDERS],
-    line: &[u8],
+    cells: Cells,
     st: State,
-    p: Places,
-) -> Stepped
+) -> Result<Record, Breach>
     requires { Safe st }
-    ensures { result ≡ record_step (edition_said e) rows.now below.now line.now st p }
+    ensures { stepped st result
+        ≡ record_step (edition_said e) rows.now below.now cells.entry.bytes.now st cells.entry.places.now }
 {
-    if lines::ends_in_bar(line) {
-        let r = record_of(e, below, line, st, p);
-        return read(rows, line, st, p, r);
+    if !lines::ends_in_bar(cells.bytes) {
+        return Err(Breach::from(Refusal::NoLastBar));
     }
-    refuse(st, 8, 0)
+    let r = record_of(e, below, cells, st);
+    read(rows, cells, st, r)
 }
 
 // 4, 5 and 6
@@ -214,18 +143,18 @@ fn lined(
     below: &[[u8; COLUMNS]; HOLDERS],
     file: &[u8],
     st: State,
-) -> Stepped
+) -> Result<Record, Breach>
     requires { Safe st }
-    ensures { result ≡ line_step (edition_said e) rows.now below.now file.now st }
+    ensures { stepped st result ≡ line_step (edition_said e) rows.now below.now file.now st }
 {
     let rest = lines::tail(file, st.at);
-    let l = fields::scan(rest);
-    let number = lines::number_at(rest, l.len);
-    if number != 0 {
-        return refuse(st, number, 0);
-    }
-    let p = l.places;
-    recorded(e, rows, below, fields::part(rest, 0, l.len), st, p)
+    let scanned = fields::scan(rest);
+    lines::number_at(rest, scanned.len)?;
+    let cells = Cells {
+        bytes: fields::part(rest, 0, scanned.len),
+        places: &scanned.places,
+    };
+    recorded(e, rows, below, cells, st)
 }
 
 // The end, 1, 2 and 3.
@@ -235,29 +164,30 @@ pub(crate) fn turn(
     below: &[[u8; COLUMNS]; HOLDERS],
     file: &[u8],
     st: State,
-) -> Stepped
+) -> Result<Record, Answer>
     requires { Near st }
     ensures { result ≡ turn_of (edition_said e) rows.now below.now file.now st }
 {
     let n = st.count;
-    let at = st.at;
-    let done = st.done;
-    if file.len() <= at {
-        if done {
-            return stop(Answer {
+    if file.len() <= st.at {
+        if st.done {
+            return Err(Answer {
                 number: 0,
                 line: n,
                 field: 0,
                 entries: n,
             });
         }
-        return refuse(st, 1, 0);
+        return Err(refused(n, Breach::from(Refusal::NotClosed)));
     }
-    if done {
-        return refuse(st, 2, 0);
+    if st.done {
+        return Err(refused(n, Breach::from(Refusal::GoesOn)));
     }
     if LINES <= n {
-        return refuse(st, 3, 0);
+        return Err(refused(n, Breach::from(Refusal::TooManyLines)));
     }
-    lined(e, rows, below, file, st)
+    match lined(e, rows, below, file, st) {
+        Ok(r) => Ok(r),
+        Err(breach) => Err(refused(n, breach)),
+    }
 }

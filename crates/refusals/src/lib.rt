@@ -42,6 +42,16 @@ impl Refusal {
     {
         self as u32
     }
+
+    // The refusal, with the field that it names.
+    pub fn at(self, field: u32) -> Breach
+        ensures { result ≡ record { refusal = self; field = field } }
+    {
+        Breach {
+            refusal: self,
+            field,
+        }
+    }
 }
 
 // A refusal in a file or a record: why, and the field that it names, 0 where it names none.

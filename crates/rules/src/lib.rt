@@ -320,10 +320,7 @@ fn conditions_found(cells: Cells, k: u32) -> Result<(), Breach>
     ensures { found_said result ≡ ask_conditions 19 condition_order k (cells_of cells.entry) }
 {
     match conditions::broken_field(cells, k) {
-        Some(field) => Err(Breach {
-            refusal: Refusal::Disagrees,
-            field,
-        }),
+        Some(field) => Err(Refusal::Disagrees.at(field)),
         None => Ok(()),
     }
 }
@@ -340,10 +337,7 @@ pub fn contents_found(
     for i in 0..layout::field_count(rows, k).min(cells.places.count) {
         let field = i + 1;
         if let Err(refusal) = field_rule(name, cells.field(field), layout::row_at(rows, k, i)) {
-            return Err(Breach {
-                refusal,
-                field: field as u32,
-            });
+            return Err(refusal.at(field as u32));
         }
     }
     conditions_found(cells, k)

@@ -17,8 +17,8 @@ use Rattle.rules.proofs.contents_found.Goals as goal
 pub loop-i-init : goal.loop-i-init
 loop-i-init c = refl
 
-pub overflow_cast-result : goal.overflow_cast-result
-overflow_cast-result c = omega (arith, c.field_count.ensures, count_bound c.args.rows.now c.args.k)
+pub overflow_cast-field : goal.overflow_cast-field
+overflow_cast-field c = omega (arith, c.field_count.ensures, count_bound c.args.rows.now c.args.k)
 
 pub returns-in-Err : goal.returns-in-Err
 unfolding or_else
@@ -30,7 +30,7 @@ returns-in-Err c =
     let cell : i < length cells = omega (arith, cells_length a.cells.bytes.now a.cells.places.now, count_bound a.rows.now a.k) in
     let e = c.in-Err.ensures ∙ rw (c.row_at.ensures, c.field.ensures) in
     let found = found_here a.rows.now a.k a.name.now cells i row cell c.in-Err.refusal e in
-    sym (in_parts _ _ _ _ ∙ rw (c.loop-i.invariant ∙ sym found))
+    rw c.at.ensures (sym (in_parts _ _ _ _ ∙ rw (c.loop-i.invariant ∙ sym found)))
 
 pub loop-i-preserved : goal.loop-i-preserved
 loop-i-preserved c =
