@@ -66,10 +66,15 @@ fn look_up(
     let at = a.line;
     let field = a.field;
     println!(rt; "{number} {at} {field}")?;
-    let s = search::search(file, search::entries(table, a.entries), line, cpf);
-    let number = s.number;
-    let at = s.line;
-    let count = s.count;
+    let (number, at, count) = match search::search(
+        file,
+        search::entries(table, a.entries),
+        line,
+        cpf,
+    ) {
+        Ok(found) => (0, found.line, found.count),
+        Err(refusal) => (refusal.number(), 0, 0),
+    };
     println!(rt; "{number} {at} {count}")
 }
 

@@ -321,10 +321,13 @@ fn replay_search(
     line: u32,
     key: &[u8],
 ) -> io::Result<()> {
-    let s = search::search(file, table, line, key);
-    print_first(rt, s.number as u64)?;
-    print_next(rt, s.line as u64)?;
-    print_next(rt, s.count as u64)?;
+    let (number, line, count) = match search::search(file, table, line, key) {
+        Ok(found) => (0, found.line, found.count),
+        Err(refusal) => (refusal.number(), 0, 0),
+    };
+    print_first(rt, u64::from(number))?;
+    print_next(rt, u64::from(line))?;
+    print_next(rt, u64::from(count))?;
     print_end(rt)
 }
 

@@ -1,4 +1,5 @@
 pub mod Determined
 pub mod EntryRead
+pub mod Said
 pub mod Meaning
 pub mod Within
