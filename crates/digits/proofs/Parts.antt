@@ -6,7 +6,8 @@ use Rattle.dirf.specs.Bytes.{Text}
 use Rattle.dirf.specs.Digits.{digit_right, digits_right}
 
 pub in_parts : (ws s : Text) → 1 ≤ length ws
-    → digits_right (get_or ws 0 0) (drop 1 ws) s ≡ (eqb (length s) (length ws + 1) && digit_right (take (length ws - 1) (drop 1 ws)) s && digit_right ws s)
+    → digits_right (get_or ws 0 0) (drop 1 ws) s
+    ≡ (eqb (length s) (length ws + 1) && digit_right (take (length ws - 1) (drop 1 ws)) s && digit_right ws s)
 unfolding digits_right
 in_parts ws s h =
     let e : length (drop 1 ws) + 2 ≡ length ws + 1 = omega (arith, length-drop 1 ws) in
