@@ -9,12 +9,15 @@ const CPF: [u8; 10] = [11, 10, 9, 8, 7, 6, 5, 4, 3, 2];
 
 const CNPJ: [u8; 13] = [6, 5, 4, 3, 2, 9, 8, 7, 6, 5, 4, 3, 2];
 
-// A digit times its weight; a byte below the digits, which 14 keeps out of every field of the layout, counts nothing.
-fn times(weight: u8, b: u8) -> u32
-    ensures value { result ≡ weight * (b - 48) }
-    ensures small { result < 65536 }
+// A digit times its weight; a byte below the digits, which 14 keeps out of every field, counts nothing. `saturating_sub` took a third more.
+fn times(weight: u8, b: u8) -> u16
+    ensures { result ≡ weight * (b - 48) }
 {
-    u32::from(weight) * u32::from(b.saturating_sub(b'0'))
+    if b < b'0' {
+        0
+    } else {
+        u16::from(weight) * u16::from(b - b'0')
+    }
 }
 
 // The sum of the digits, each times its weight.
@@ -25,7 +28,7 @@ fn weighted_sum(weights: &[u8], s: &[u8]) -> u32
 {
     let mut sum = 0;
     for (weight, b) in weights.iter().zip(s) {
-        sum += times(*weight, *b);
+        sum += u32::from(times(*weight, *b));
     }
     sum
 }
