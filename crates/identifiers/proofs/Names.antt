@@ -81,7 +81,7 @@ whole [] (x ∷ s) h = absurd (omega arith)
 whole (y ∷ name) (x ∷ s) h = let e = whole name s (omega arith) in grind (arith, nat_tests)
 
 -- the arms of a match on single numbers, the last one first
-abbrev arms : List ℕ → List (List ℕ)
+abbrev pub arms : List ℕ → List (List ℕ)
 arms = map (λ b. b ∷ [])
 
 -- a text of which something holds, and of which a number is in no arm, where that of every identifier of which it holds is in one

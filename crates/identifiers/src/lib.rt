@@ -28,6 +28,7 @@ fn three_r(s: &[u8]) -> u32
     }
 }
 
+#[tactic(auto, using(crate::proofs::Others::of_three))]
 fn of_three(s: &[u8]) -> u32
     requires { length s.now ≡ 3 }
     ensures { result ≡ kind_in names2025 s.now }
@@ -98,6 +99,7 @@ fn four_r(s: &[u8]) -> u32
     }
 }
 
+#[tactic(auto, using(crate::proofs::Others::of_four))]
 fn of_four(s: &[u8]) -> u32
     requires { length s.now ≡ 4 }
     ensures { result ≡ kind_in names2025 s.now }
@@ -195,6 +197,7 @@ fn five_v(s: &[u8]) -> u32
     }
 }
 
+#[tactic(auto, using(crate::proofs::Others::of_five))]
 fn of_five(s: &[u8]) -> u32
     requires { length s.now ≡ 5 }
     ensures { result ≡ kind_in names2025 s.now }
@@ -238,6 +241,7 @@ fn six_r(s: &[u8]) -> u32
     }
 }
 
+#[tactic(auto, using(crate::proofs::Others::of_six))]
 fn of_six(s: &[u8]) -> u32
     requires { length s.now ≡ 6 }
     ensures { result ≡ kind_in names2025 s.now }
@@ -259,6 +263,7 @@ fn seven_b(s: &[u8]) -> u32
     }
 }
 
+#[tactic(auto, using(crate::proofs::Others::of_seven))]
 fn of_seven(s: &[u8]) -> u32
     requires { length s.now ≡ 7 }
     ensures { result ≡ kind_in names2025 s.now }
@@ -272,6 +277,7 @@ fn of_seven(s: &[u8]) -> u32
 }
 
 // The kind in the edition of 2025, which has all identifiers.
+#[tactic(auto, using(crate::proofs::Others::of_other_length))]
 fn known(s: &[u8]) -> u32
     ensures { result ≡ kind_in names2025 s.now }
 {
