@@ -42,6 +42,7 @@ fn check_digit(sum: u32) -> u8
     if rest < 2 {
         b'0'
     } else {
+        // `as`: no From takes a u32 to a u8, and this is at most 9
         b'0' + (11 - rest) as u8
     }
 }

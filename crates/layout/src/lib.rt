@@ -472,6 +472,7 @@ pub fn name(names: &[u8; NAME_BYTES], k: u32) -> &[u8]
     ensures { (result.now ≡ name_in names.now k)
         × ((result.ref_ptr.0 ≡ names.entry.ref_ptr.0) × (result.ref_ptr.1 ≡ names.entry.ref_ptr.1 + name_start k)) }
 {
+    // `as`, here and below: no From takes a u32 to a usize
     let k = k as usize;
     if KINDS <= k {
         return &names[..0];

@@ -39,6 +39,7 @@ pub fn entries(table: &[u32], count: u32) -> &[u32]
     ensures { (result.now ≡ take (numbers_an_entry * count) table.now)
         × ((result.ref_ptr.0 ≡ table.entry.ref_ptr.0) × (result.ref_ptr.1 ≡ table.entry.ref_ptr.1)) }
 {
+    // `as`, here and below: no From takes a u32 to a usize
     let used = NUMBERS_AN_ENTRY * count as usize;
     &table[..used.min(table.len())]
 }
