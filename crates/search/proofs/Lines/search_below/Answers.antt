@@ -1,8 +1,9 @@
 -- What is left to be searched comes to what the whole search comes to, and there are steps for all of it.
 use Rattle.std.proofs.Common.{refl, sym, ◌∙◌, arith, rules}
 use Rattle.dirf.specs.Search.{entries_in, stops_by}
-use Rattle.dirf.proofs.found.Steps.{ended, refused, company, stopped, forward, goes_on}
+use Rattle.dirf.proofs.found.Steps.{ended, refused, company, forward, goes_on}
 use Rattle.search.proofs.Said.{refusal_says}
+use Rattle.search.proofs.Stop.{stop}
 use Rattle.search.proofs.EntryRead.{kind_is, last_is, key_is}
 use Rattle.search.proofs.Lines.search_below.Goals as goal
 
@@ -27,20 +28,20 @@ unfolding stops_by
 returns-then-same-clause-says c =
     let i = c.loop-at.invariant.rest in
     let e = c.in_ok-e.ensures in
-    let found = key_is _ _ _ e.1 _ _ c.key-found.ensures in
-    let at = stopped _ _ _ _ _ _ c.loop-at-test.true e.0 i.0 i.1 (rw (← kind_is _ _ _ e.1) (sym c.if-is_company.ensures))
-    (rw (← found) (sym c.if-not-less.ensures)) in
-    sym (i.2 ∙ at ∙ rw (← found, ← c.if-same.ensures))
+    sym
+    (i.2
+    ∙ stop _ _ _ _ _ _ _ _ _ c.loop-at-test.true i.1 e.0 e.1 c.if-is_company.ensures c.key-found.ensures c.if-not-less.ensures
+    ∙ rw (← c.if-same.ensures))
 
 pub returns-else-same-clause-says : goal.returns-else-same-clause-says
 unfolding stops_by
 returns-else-same-clause-says c =
     let i = c.loop-at.invariant.rest in
     let e = c.in_ok-e.ensures in
-    let found = key_is _ _ _ e.1 _ _ c.key-found.ensures in
-    let at = stopped _ _ _ _ _ _ c.loop-at-test.true e.0 i.0 i.1 (rw (← kind_is _ _ _ e.1) (sym c.if-is_company.ensures))
-    (rw (← found) (sym c.if-not-less.ensures)) in
-    sym (i.2 ∙ at ∙ rw (← found, ← c.if-same.ensures))
+    sym
+    (i.2
+    ∙ stop _ _ _ _ _ _ _ _ _ c.loop-at-test.true i.1 e.0 e.1 c.if-is_company.ensures c.key-found.ensures c.if-not-less.ensures
+    ∙ rw (← c.if-same.ensures))
 
 pub loop-at-smaller : goal.loop-at-smaller
 loop-at-smaller c =
