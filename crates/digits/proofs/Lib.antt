@@ -1,2 +1,3 @@
-pub mod Sizes
+pub mod Parts
+pub mod Weighted
 pub mod Determined

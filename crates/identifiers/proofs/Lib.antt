@@ -1,4 +1,5 @@
 pub mod Names
+pub mod Others
 pub mod Older
 pub mod Own
 pub mod Determined

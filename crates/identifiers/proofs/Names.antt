@@ -7,13 +7,15 @@ use mathlib.Core.List.{List, [], ◌∷◌, map}
 use native.Mathlib.Nat.{add-zero, zero-add, add-suc, suc-add}
 use native.Mathlib.Omega.{arith}
 use lib.Dec.{eqb}
-use lib.ListN.{length, get_or, drop}
+use lib.ListN.{length, get_or, take}
 use borrow.Author.Tests.{eq-eqb}
 use Rattle.dirf.specs.Bytes.{Text, every, some, is_in, same}
 use Rattle.dirf.specs.Kinds.{names2025}
 use Rattle.dirf.specs.Edition.{kind_in}
 use Rattle.dirf.proofs.tests.Bools.{and_left, and_right, if_cases}
 use Rattle.dirf.proofs.tests.Says.{same_says}
+use Rattle.std.specs.Cmp.Lexicographic.{pointwise}
+use Rattle.std.proofs.lemmas.Bool.Decides.{nat_tests}
 use Rattle.fields.proofs.Arms.{NoneOf, none_in}
 use Rattle.identifiers.specs.Left.{Spells, alike, number_of, is_beside, NoOther, Left}
 
@@ -70,16 +72,16 @@ one_left {name} {s} {k} left =
     (λ q. sym left.kind ∙ number_kind names2025 name ∙ ap (kind_in names2025) (sym ((same_says s name).0 q)))
     (λ q. sym (none_left name s left.long left.first q names2025 left.no_other))
 
--- the first byte was looked at
-pub after_first : (name s : Text) → length s ≡ length name → get_or s 0 0 ≡ get_or name 0 0 → same s name ≡ same (drop 1 s) (drop 1 name)
+-- a text that is as long begins with a name where it is that name
+pub whole : (name s : Text) → length s ≡ length name → pointwise eqb name (take (length name) s) ≡ same s name
 unfolding same
-after_first [] [] l f = refl
-after_first (y ∷ name) [] l f = absurd (omega arith)
-after_first [] (x ∷ s) l f = absurd (omega arith)
-after_first (y ∷ name) (x ∷ s) l f = rw (eq-eqb x y f)
+whole [] [] h = refl
+whole (y ∷ name) [] h = absurd (omega arith)
+whole [] (x ∷ s) h = absurd (omega arith)
+whole (y ∷ name) (x ∷ s) h = let e = whole name s (omega arith) in grind (arith, nat_tests)
 
 -- the arms of a match on single numbers, the last one first
-abbrev arms : List ℕ → List (List ℕ)
+abbrev pub arms : List ℕ → List (List ℕ)
 arms = map (λ b. b ∷ [])
 
 -- a text of which something holds, and of which a number is in no arm, where that of every identifier of which it holds is in one

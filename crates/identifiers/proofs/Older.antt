@@ -1,11 +1,13 @@
 -- The older edition's identifiers are those of 2025 without two.
 use Rattle.std.specs.Prelude.{if◌then◌else◌}
 use Prim.Native.Nat.{ℕ}
-use mathlib.Core.Path.{◌≡◌, refl, subst}
-use mathlib.Core.Bool.{true, false, not}
+use mathlib.Core.Path.{◌≡◌, refl, sym, subst, ◌∙◌}
+use mathlib.Core.Bool.{true, false, not, ◌||◌, or-false}
+use lib.Dec.{eqb}
 use mathlib.Core.List.{List, [], ◌∷◌}
 use borrow.Author.Tests.{not-true}
-use Rattle.dirf.specs.Bytes.{Text, bytes, is_in, same, bytes_opens}
+use Rattle.std.proofs.lemmas.Bool.Decides.{nat_tests}
+use Rattle.dirf.specs.Bytes.{Text, bytes, is_in, same, some, bytes_opens}
 use Rattle.dirf.specs.Kinds.{RTDS, ESDS, names2025, names2022}
 use Rattle.dirf.specs.Edition.{kind_in}
 use Rattle.dirf.proofs.tests.Bools.{by_answer}
@@ -33,3 +35,12 @@ older s =
     is : (t : Text) → same t s ≡ true → unless_lacking (kind_in names2025 t) ≡ kind_in names2022 t
         → unless_lacking (kind_in names2025 s) ≡ kind_in names2022 s
     is t q e = subst (λ t. unless_lacking (kind_in names2025 t) ≡ kind_in names2022 t) ((same_says t s).0 q) e
+
+-- the same, with the two tests open to the prover's own search
+pub in_older : (s : Text)
+    → kind_in names2022 s ≡ (if eqb (kind_in names2025 s) RTDS || eqb (kind_in names2025 s) ESDS then 0 else kind_in names2025 s)
+unfolding is_in some
+in_older s = sym (older s) ∙ rw or-false
+
+-- for the prover's own search
+pub ruleset tests = (in_older, nat_tests)

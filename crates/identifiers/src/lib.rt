@@ -10,19 +10,12 @@ ghost use Rattle.identifiers.specs.Left.{Begins, Left};
 
 use editions::Edition;
 
-// Its kind, if this is the one identifier that is left; else 0. The first byte was looked at.
+// Its kind, if this is the one identifier that is left; else 0. Not `==`, whose code is one for all lengths and took 14 instructions more.
 fn only(s: &[u8], name: &[u8], k: u32) -> u32
     requires { Left name.now k s.now }
     ensures { result ≡ kind_in names2025 s.now }
 {
-    let mut i = 0;
-    while i + 1 < name.len() {
-        i += 1;
-        if s[i] != name[i] {
-            return 0;
-        }
-    }
-    k
+    if s.starts_with(name) { k } else { 0 }
 }
 
 fn three_r(s: &[u8]) -> u32
@@ -35,6 +28,7 @@ fn three_r(s: &[u8]) -> u32
     }
 }
 
+#[tactic(auto, using(crate::proofs::Others::of_three))]
 fn of_three(s: &[u8]) -> u32
     requires { length s.now ≡ 3 }
     ensures { result ≡ kind_in names2025 s.now }
@@ -105,6 +99,7 @@ fn four_r(s: &[u8]) -> u32
     }
 }
 
+#[tactic(auto, using(crate::proofs::Others::of_four))]
 fn of_four(s: &[u8]) -> u32
     requires { length s.now ≡ 4 }
     ensures { result ≡ kind_in names2025 s.now }
@@ -202,6 +197,7 @@ fn five_v(s: &[u8]) -> u32
     }
 }
 
+#[tactic(auto, using(crate::proofs::Others::of_five))]
 fn of_five(s: &[u8]) -> u32
     requires { length s.now ≡ 5 }
     ensures { result ≡ kind_in names2025 s.now }
@@ -245,6 +241,7 @@ fn six_r(s: &[u8]) -> u32
     }
 }
 
+#[tactic(auto, using(crate::proofs::Others::of_six))]
 fn of_six(s: &[u8]) -> u32
     requires { length s.now ≡ 6 }
     ensures { result ≡ kind_in names2025 s.now }
@@ -266,6 +263,7 @@ fn seven_b(s: &[u8]) -> u32
     }
 }
 
+#[tactic(auto, using(crate::proofs::Others::of_seven))]
 fn of_seven(s: &[u8]) -> u32
     requires { length s.now ≡ 7 }
     ensures { result ≡ kind_in names2025 s.now }
@@ -279,6 +277,7 @@ fn of_seven(s: &[u8]) -> u32
 }
 
 // The kind in the edition of 2025, which has all identifiers.
+#[tactic(auto, using(crate::proofs::Others::of_other_length))]
 fn known(s: &[u8]) -> u32
     ensures { result ≡ kind_in names2025 s.now }
 {
@@ -293,16 +292,13 @@ fn known(s: &[u8]) -> u32
 }
 
 // The kind that an identifier names in an edition; 0: unknown.
+#[tactic(auto, using(crate::proofs::Older::tests), unfolding(dirf::specs::Editions::edition_named, dirf::specs::Edition::edition_opens))]
 pub fn kind_of(e: Edition, s: &[u8]) -> u32
     ensures { result ≡ kind_of (edition_said e) s.now }
 {
-    let k = known(s);
-    match e {
-        Edition::Of2025 => k,
+    match (e, known(s)) {
         // RTDS, ESDS
-        Edition::Of2022 => match k {
-            10 | 17 => 0,
-            _ => k,
-        },
+        (Edition::Of2022, 10 | 17) => 0,
+        (_, k) => k,
     }
 }

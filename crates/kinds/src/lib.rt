@@ -11,20 +11,19 @@ ghost use Rattle.kinds.specs.Kinds.{month_count};
 pub const KINDS: usize = 74;
 
 // Where the table cannot say it: below an IDREC the block is asked, and an ESPA stands below the INFPA of a BPFDEC.
+#[tactic(auto, using(std::proofs::lemmas::Bool::Decides::nat_tests), unfolding(dirf::specs::Tree::suits))]
 pub fn suits(declarant: u32, holder: u32, outer: u32, kind: u32) -> bool
     ensures { result ≡ suits_of declarant holder outer kind }
 {
     match holder {
         5 => block_of(declarant, kind) == outer,
-        29 => match kind {
-            31 => outer == 6,
-            _ => true,
-        },
+        29 => kind != 31 || outer == 6,
         _ => true,
     }
 }
 
 // What an IDREC must belong to for a beneficiary to stand below it.
+#[tactic(auto, using(crate::proofs::Ranges::blocks))]
 fn block_of(d: u32, k: u32) -> u32
     ensures { result ≡ block_of d k }
 {
@@ -37,46 +36,39 @@ fn block_of(d: u32, k: u32) -> u32
     }
 }
 
+#[tactic(auto, using(crate::proofs::Ranges::later_ones))]
 pub fn is_later(k: u32) -> bool
     ensures { result ≡ is_later k }
 {
-    match k {
-        45..=47 | 69..=72 => true,
-        _ => false,
-    }
+    matches!(k, 45..=47 | 69..=72)
 }
 
 // Whether a kind stands at most once under its parent: a value record with no key.
+#[tactic(auto, using(crate::proofs::Ranges::once))]
 pub fn stands_once(k: u32) -> bool
     ensures { result ≡ stands_once k }
 {
-    match k {
-        7..=19 | 21..=28 | 30..=43 | 53 | 57..=58 | 61 => true,
-        _ => false,
-    }
+    matches!(k, 7..=19 | 21..=28 | 30..=43 | 53 | 57..=58 | 61)
 }
 
 // Whether nothing ever stands below a record of this kind: RTPSE and RDTPSE have a key.
+#[tactic(auto, using(crate::proofs::Ranges::nothing))]
 pub fn opens_nothing(k: u32) -> bool
     ensures { result ≡ opens_nothing k }
 {
-    match k {
-        66 | 68 => true,
-        _ => stands_once(k),
-    }
+    stands_once(k) || matches!(k, 66 | 68)
 }
 
 // The amounts of a value record stand one after another. The field of the first: that of RTPSE and RDTPSE stands behind the provider.
+#[tactic(auto, using(crate::proofs::Ranges::firsts))]
 pub fn first_amount(k: u32) -> usize
     ensures { result ≡ first_amount k }
 {
-    match k {
-        66 | 68 => 4,
-        _ => 2,
-    }
+    if matches!(k, 66 | 68) { 4 } else { 2 }
 }
 
 // How many there are, 0 where there is no total.
+#[tactic(auto, using(crate::proofs::Ranges::counts))]
 pub fn amount_count(k: u32) -> usize
     ensures { result ≡ amount_count k }
 {
@@ -92,11 +84,9 @@ pub fn amount_count(k: u32) -> usize
 }
 
 // Of any other: the twelve months and the thirteenth of a value record.
+#[tactic(auto, unfolding(crate::specs::Kinds::month_count))]
 fn month_count(k: u32) -> usize
     ensures { result ≡ month_count k }
 {
-    if stands_once(k) {
-        return 13;
-    }
-    0
+    if stands_once(k) { 13 } else { 0 }
 }

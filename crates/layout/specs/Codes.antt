@@ -27,3 +27,8 @@ row_codes t k i =
 -- the field row that five bytes say
 unfoldable pub row_said : Row → FieldRow
 row_said r = row_of r.format r.fill r.size r.need r.holds
+
+-- to compute what five bytes of a table are: `unfolding codes_open`
+unfoldable pub codes_open : Unit {0}
+unfolding row_codes byte_in
+codes_open = tt

@@ -163,3 +163,12 @@ record_of rows = length rows ∷ (concat (map row_bytes_of rows) ++ replicate ((
 
 unfoldable pub row_table : Edition → List ℕ
 row_table e = concat (tab (λ k. record_of (rows_of e k)) 0 kinds)
+
+-- to compute what a lookup says of any table: `unfolding lookups_open`; what an edition's tables are: `unfolding tables_open`
+unfoldable pub lookups_open : Unit {0}
+unfolding name_in name_start count_in yes_in
+lookups_open = tt
+
+unfoldable pub tables_open : Unit {0}
+unfolding slot_of concat name_table yes below_table format_byte fill_byte need_byte holds_byte row_bytes_of record_of row_table
+tables_open = tt

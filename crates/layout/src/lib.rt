@@ -361,24 +361,28 @@ const NO_ROW: Row = Row {
     holds: 0,
 };
 
+#[tactic(auto, unfolding(crate::specs::Tables::tables_open, dirf::specs::Bytes::bytes_opens, dirf::specs::Edition::edition_opens))]
 fn names_2025() -> [u8; NAME_BYTES]
     ensures { result ≡ name_table edition2025 }
 {
     NAMES
 }
 
+#[tactic(auto, unfolding(crate::specs::Tables::tables_open, dirf::specs::Bytes::bytes_opens, dirf::specs::Edition::edition_opens))]
 fn rows_2025() -> [u8; ROW_BYTES]
     ensures { result ≡ row_table edition2025 }
 {
     ROWS
 }
 
+#[tactic(auto, unfolding(crate::specs::Tables::tables_open, dirf::specs::Bytes::bytes_opens, dirf::specs::Edition::edition_opens))]
 fn pf_2025() -> [[u8; COLUMNS]; HOLDERS]
     ensures { result ≡ below_table edition2025 DECPF }
 {
     BELOW_DECPF
 }
 
+#[tactic(auto, unfolding(crate::specs::Tables::tables_open, dirf::specs::Bytes::bytes_opens, dirf::specs::Edition::edition_opens))]
 fn pj_2025() -> [[u8; COLUMNS]; HOLDERS]
     ensures { result ≡ below_table edition2025 DECPJ }
 {
@@ -390,14 +394,11 @@ fn fill(t: &mut [u8], from: usize, n: usize, b: u8)
     requires { from + n ≤ length t.old }
     ensures { t.new ≡ sets t.old from (replicate n b) }
 {
-    let mut i = 0;
-    while i < n {
-        t[from + i] = b;
-        i += 1;
-    }
+    t[from..from + n].fill(b);
 }
 
 // The tables of an edition. Those of the older one are those of 2025 with its own values in line 1, and without RTDS and ESDS.
+#[tactic(auto, using(crate::proofs::Editions::names_older), unfolding(dirf::specs::Editions::edition_named))]
 pub fn name_table(e: Edition) -> [u8; NAME_BYTES]
     ensures { result ≡ name_table (edition_said e) }
 {
@@ -412,6 +413,7 @@ pub fn name_table(e: Edition) -> [u8; NAME_BYTES]
     t
 }
 
+#[tactic(auto, using(crate::proofs::Editions::rows_older), unfolding(dirf::specs::Editions::edition_named))]
 pub fn row_table(e: Edition) -> [u8; ROW_BYTES]
     ensures { result ≡ row_table (edition_said e) }
 {
@@ -432,6 +434,7 @@ pub fn row_table(e: Edition) -> [u8; ROW_BYTES]
 }
 
 // What may stand below what under a DECPF, and under a DECPJ. Each has a function of its own: to choose between two costs a copy.
+#[tactic(auto, using(crate::proofs::Editions::pf_older), unfolding(dirf::specs::Editions::edition_named))]
 pub fn pf_table(e: Edition) -> [[u8; COLUMNS]; HOLDERS]
     ensures { result ≡ below_table (edition_said e) DECPF }
 {
@@ -446,6 +449,7 @@ pub fn pf_table(e: Edition) -> [[u8; COLUMNS]; HOLDERS]
     t
 }
 
+#[tactic(auto, using(crate::proofs::Editions::pj_older), unfolding(dirf::specs::Editions::edition_named))]
 pub fn pj_table(e: Edition) -> [[u8; COLUMNS]; HOLDERS]
     ensures { result ≡ below_table (edition_said e) DECPJ }
 {
@@ -462,51 +466,45 @@ pub fn pj_table(e: Edition) -> [[u8; COLUMNS]; HOLDERS]
     t
 }
 
-// The identifier of a kind, as a part of the lent table; empty for what is no kind.
+// The identifier of a kind, as a part of the lent table; empty for what is no kind. A longer length is cut to the slot.
+#[tactic(auto, using(std::proofs::lemmas::Bool::Decides::nat_tests), unfolding(crate::specs::Tables::lookups_open))]
 pub fn name(names: &[u8; NAME_BYTES], k: u32) -> &[u8]
     ensures { (result.now ≡ name_in names.now k)
         × ((result.ref_ptr.0 ≡ names.entry.ref_ptr.0) × (result.ref_ptr.1 ≡ names.entry.ref_ptr.1 + name_start k)) }
 {
-    let all = &names[..];
-    if KINDS <= k as usize {
-        return &all[0..0];
+    // `as`, here and below: no From takes a u32 to a usize
+    let k = k as usize;
+    if KINDS <= k {
+        return &names[..0];
     }
-    let at = k as usize * SLOT;
-    let n = names[at];
-    let start = at + 1;
-    if 7 < n {
-        let end = start + 7;
-        return &all[start..end];
-    }
-    let end = start + n as usize;
-    &all[start..end]
+    let len = (SLOT - 1).min(usize::from(names[k * SLOT]));
+    let start = k * SLOT + 1;
+    &names[start..start + len]
 }
 
-// How many fields a kind has.
+// How many fields a kind has. A larger number is cut to the room for rows.
+#[tactic(auto, using(std::proofs::lemmas::Bool::Decides::nat_tests), unfolding(crate::specs::Tables::lookups_open))]
 pub fn field_count(rows: &[u8; ROW_BYTES], k: u32) -> usize
     ensures { result ≡ count_in rows.now k }
 {
-    if KINDS <= k as usize {
-        return 0;
+    let k = k as usize;
+    if k < KINDS {
+        MOST_FIELDS.min(usize::from(rows[k * RECORD]))
+    } else {
+        0
     }
-    let n = rows[k as usize * RECORD];
-    if (MOST_FIELDS as u8) < n {
-        return MOST_FIELDS;
-    }
-    n as usize
 }
 
 // Row i, from 0, of a kind; past the last row, whatever: nobody asks for it.
+#[tactic(auto, using(std::proofs::lemmas::Bool::Decides::nat_tests), unfolding(crate::specs::Codes::codes_open))]
 pub fn row_at(rows: &[u8; ROW_BYTES], k: u32, i: usize) -> Row
     ensures { result ≡ row_codes rows.now k i }
 {
-    if KINDS <= k as usize {
+    let k = k as usize;
+    if KINDS <= k || MOST_FIELDS <= i {
         return NO_ROW;
     }
-    if MOST_FIELDS <= i {
-        return NO_ROW;
-    }
-    let at = k as usize * RECORD + 1 + i * ROW;
+    let at = k * RECORD + 1 + i * ROW;
     Row {
         format: rows[at],
         fill: rows[at + 1],
@@ -516,19 +514,16 @@ pub fn row_at(rows: &[u8; ROW_BYTES], k: u32, i: usize) -> Row
     }
 }
 
+#[tactic(auto, using(std::proofs::lemmas::Bool::Decides::nat_tests), unfolding(crate::specs::Tables::lookups_open))]
 fn yes(t: &[[u8; COLUMNS]; HOLDERS], h: u32, k: u32) -> bool
     ensures { result ≡ yes_in t.now h k }
 {
-    if HOLDERS <= h as usize {
-        return false;
-    }
-    if COLUMNS <= k as usize {
-        return false;
-    }
-    t[h as usize][k as usize] == b'Y'
+    let (h, k) = (h as usize, k as usize);
+    h < HOLDERS && k < COLUMNS && t[h][k] == b'Y'
 }
 
 // May a record of a kind stand directly below a holder of another, which itself belongs to `outer`, by the declarant's table?
+#[tactic(auto, unfolding(crate::specs::Tables::holds_in))]
 pub fn may_hold(
     below: &[[u8; COLUMNS]; HOLDERS],
     declarant: u32,
@@ -538,18 +533,13 @@ pub fn may_hold(
 ) -> bool
     ensures { result ≡ holds_in below.now declarant holder outer kind }
 {
-    if yes(below, holder, kind) {
-        return kinds::suits(declarant, holder, outer, kind);
-    }
-    false
+    yes(below, holder, kind) && kinds::suits(declarant, holder, outer, kind)
 }
 
 // A kind that is in the base: the table names it, and it is not left for later.
+#[tactic(auto, using(std::proofs::lemmas::Bool::Decides::nat_tests), unfolding(crate::specs::Tables::base_in))]
 pub fn is_base(names: &[u8; NAME_BYTES], k: u32) -> bool
     ensures { result ≡ base_in names.now k }
 {
-    if 0 < name(names, k).len() {
-        return !kinds::is_later(k);
-    }
-    false
+    !name(names, k).is_empty() && !kinds::is_later(k)
 }

@@ -26,8 +26,10 @@ impl Question<'_> {
         let checked = checker::check(self.file, table);
         println!(rt; "{} {} {}", checked.number, checked.line, checked.field)?;
         let entries = search::entries(table, checked.entries);
-        let found = search::search(self.file, entries, self.line, self.cpf);
-        println!(rt; "{} {} {}", found.number, found.line, found.count)
+        match search::search(self.file, entries, self.line, self.cpf) {
+            Ok(found) => println!(rt; "0 {} {}", found.line, found.count),
+            Err(refusal) => println!(rt; "{} 0 0", refusal.number()),
+        }
     }
 }
 

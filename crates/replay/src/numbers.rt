@@ -4,12 +4,12 @@ use crate::parts::{read_bytes, read_number, read_room};
 use crate::pattern;
 use crate::printed::Written;
 use crate::stop::Stop;
-use rules::{AmountRead, Centavos, MonthRead, MonthTenths};
+use refusals::Refusal;
+use rules::{Centavos, MonthTenths};
 use std::io::Read;
-use writer::NumberWritten;
 
-// A field for a reader, which gives its value or the number of its refusal.
-fn replay_reader<F: Fn(&[u8]) -> Result<u64, u32>>(
+// A field for a reader, which gives its value or refuses it.
+fn replay_reader<F: Fn(&[u8]) -> Result<u64, Refusal>>(
     rt: &impl Print,
     input: &mut impl Read,
     read: F,
@@ -20,27 +20,21 @@ fn replay_reader<F: Fn(&[u8]) -> Result<u64, u32>>(
     let field = read_bytes(input, &mut bytes)?;
     match read(field) {
         Ok(value) => println!(rt; "0 {value}")?,
-        Err(number) => println!(rt; "{number} 0")?,
+        Err(refusal) => println!(rt; "{} 0", refusal.number())?,
     }
     Ok(())
 }
 
 pub fn replay_amount_read(rt: &impl Print, input: &mut impl Read) -> Result<(), Stop> {
-    replay_reader(rt, input, |field| match rules::read_amount(field) {
-        AmountRead::Value(amount) => Ok(amount.0),
-        AmountRead::Refused(number) => Err(number),
-    })
+    replay_reader(rt, input, |field| Ok(rules::read_amount(field)?.0))
 }
 
 pub fn replay_months_read(rt: &impl Print, input: &mut impl Read) -> Result<(), Stop> {
-    replay_reader(rt, input, |field| match rules::read_months(field) {
-        MonthRead::Value(months) => Ok(months.0),
-        MonthRead::Refused(number) => Err(number),
-    })
+    replay_reader(rt, input, |field| Ok(rules::read_months(field)?.0))
 }
 
 // A value and the bytes of room for a writer.
-fn replay_writer<F: Fn(u64, &mut [u8]) -> NumberWritten>(
+fn replay_writer<F: Fn(u64, &mut [u8]) -> Result<usize, Refusal>>(
     rt: &impl Print,
     input: &mut impl Read,
     write: F,
@@ -51,7 +45,10 @@ fn replay_writer<F: Fn(u64, &mut [u8]) -> NumberWritten>(
     let value: u64 = read_number(input)?;
     let out = read_room(input, &mut room)?;
     pattern::fill(out);
-    let NumberWritten { number, count } = write(value, out);
+    let (number, count) = match write(value, out) {
+        Ok(count) => (0, count),
+        Err(refusal) => (refusal.number(), 0),
+    };
     println!(rt; "{number} {}", Written { count, out })?;
     Ok(())
 }

@@ -27,8 +27,10 @@ impl<'a> Question<'a> {
     }
 
     fn ask(&self, rt: &impl Print, table: &[u32]) -> io::Result<()> {
-        let found = search::search(self.file, table, self.line, self.key);
-        println!(rt; "{} {} {}", found.number, found.line, found.count)
+        match search::search(self.file, table, self.line, self.key) {
+            Ok(found) => println!(rt; "0 {} {}", found.line, found.count),
+            Err(refusal) => println!(rt; "{} 0 0", refusal.number()),
+        }
     }
 }
 

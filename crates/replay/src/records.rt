@@ -26,14 +26,11 @@ pub fn replay_line(rt: &impl Print, input: &mut impl Read, edition: Edition) -> 
     let contents = read_bytes(input, &mut bytes)?;
     let lengths = read_list(input, &mut numbers)?;
     pattern::fill(out);
-    let written = writer::write_line(edition, kind, contents, lengths, out);
-    let count = written.count;
-    println!(rt;
-        "{} {} {}",
-        written.number,
-        written.field,
-        Written { count, out }
-    )?;
+    let (number, field, count) = match writer::write_line(edition, kind, contents, lengths, out) {
+        Ok(count) => (0, 0, count),
+        Err(breach) => (breach.refusal.number(), breach.field, 0),
+    };
+    println!(rt; "{number} {field} {}", Written { count, out })?;
     Ok(())
 }
 
@@ -41,7 +38,9 @@ pub fn replay_field(rt: &impl Print, input: &mut impl Read) -> Result<(), Stop> 
     let mut bytes = [0u8; BYTES];
     let k: usize = read_number(input)?;
     let line = read_bytes(input, &mut bytes)?;
-    let place = fields::place_of(line, k);
-    println!(rt; "{} {} {}", u8::from(place.there), place.start, place.len)?;
+    match fields::place_of(line, k) {
+        Some(place) => println!(rt; "1 {} {}", place.start, place.len)?,
+        None => println!(rt; "0 {} 0", line.len())?,
+    }
     Ok(())
 }

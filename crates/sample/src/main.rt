@@ -16,17 +16,15 @@ impl Line<'_> {
     // Of a refused line nothing is written, and the next one follows.
     fn put(&self, rt: &(impl Print + Eprint)) -> io::Result<()> {
         let mut out = [0u8; 1026];
-        let written = writer::write_line(
-            Edition::Of2025,
-            self.kind,
-            self.contents,
-            self.lengths,
-            &mut out,
-        );
-        if written.number != 0 {
-            return eprintln!(rt; "sample: a line was refused");
+        let Line {
+            kind,
+            contents,
+            lengths,
+        } = *self;
+        match writer::write_line(Edition::Of2025, kind, contents, lengths, &mut out) {
+            Ok(count) => rt.write_all(fields::part(&out, 0, count)),
+            Err(_) => eprintln!(rt; "sample: a line was refused"),
         }
-        rt.write_all(fields::part(&out, 0, written.count))
     }
 }
 

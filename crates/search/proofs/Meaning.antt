@@ -2,6 +2,7 @@
 use Prim.Native.Nat.{ℕ, ◌*◌, ◌/◌}
 use mathlib.Core.Path.{◌≡◌, sym, ap, ap₂, ◌∙◌}
 use mathlib.Core.List.{List}
+use Rattle.std.specs.Prelude.{Result}
 use lib.ListN.{length, take, drop}
 use lib.Seq.{take_at}
 use Rattle.dirf.specs.Bytes.{Text}
@@ -16,8 +17,9 @@ use Rattle.dirf.proofs.files.Files.{files}
 use Rattle.checker.specs.Answers.{answer_of as checked, with_numbers, table_after}
 use Rattle.checker.proofs.Table.{length_numbers}
 use Rattle.checker.proofs.check.Reads as check
-use Rattle.search.specs.Answers.{answer_of}
-use Rattle.search.specs.declared.Searched.{Searched}
+use Rattle.refusals.specs.declared.Refusal.{Refusal}
+use Rattle.search.specs.Answers.{said}
+use Rattle.search.specs.declared.Found as code
 use Rattle.search.proofs.search.Reads as search
 
 -- the table of a file, with what the lent table had behind its entries
@@ -28,9 +30,9 @@ own v before =
     (length_numbers v.table)
 
 -- the answer of a search is what is to be found below the IDREC of line n
-pub record Answers (file : Text) (t : List Entry) (n : ℕ) (key : Text) (r : Searched) : Type 0 where
+pub record Answers (file : Text) (t : List Entry) (n : ℕ) (key : Text) (r : Result code.Found Refusal) : Type 0 where
   pub says : dirf.Searched
-  pub is : r ≡ answer_of says
+  pub is : said r ≡ says
   pub right : Found file t n key says
 
 pub search_finds : (κs : _) (a : _) (x : _) (s : _) → check.Post κs a x s → x.number ≡ 0
@@ -46,7 +48,7 @@ search_finds κs a x s p ok n l is κs' b y u q same-file same-table same_line =
     let key = b.1.1.1.0.now in
     record {
       says = search_in file t n key;
-      is = q ∙ ap (λ f. answer_of (search_in f b.1.0.now b.1.1.0 key)) same-file
-          ∙ ap₂ (λ t n. answer_of (search_in file t n key)) (same-table ∙ p.1) same_line;
+      is = q.0 ∙ ap (λ f. search_in f b.1.0.now b.1.1.0 key) same-file
+          ∙ ap₂ (λ t n. search_in file t n key) (same-table ∙ p.1) same_line;
       right = files.finds file room (sym (ap (λ z. z.number) p.0) ∙ ok) n l is t (own v a.1.0.now) key;
     }
