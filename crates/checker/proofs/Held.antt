@@ -30,21 +30,17 @@ use Rattle.dirf.proofs.tree.Groups.{last_none, last_next}
 use Rattle.dirf.proofs.totals.Line.{Adds, adds, added_bound}
 use Rattle.dirf.proofs.totals.Totals.{total_next, total_bound}
 use Rattle.fields.specs.Places.{part_of}
-use Rattle.rules.specs.Findings.{finding_of}
-use Rattle.rules.specs.declared.Finding.{Finding}
 use Rattle.checker.specs.State.{start_state, start_past, last_in, above, past_after, state_after}
-use Rattle.checker.specs.Turn.{Fits, looked_found, entry_of, turn_of}
+use Rattle.checker.specs.Turn.{Stepped, Fits, looked_found, entry_of, turn_of}
 use Rattle.checker.specs.Totals.{totals_in, add_at, sum_of, line_sum, Addable}
 use Rattle.checker.specs.Answers.{entry_of_code, SayAll, with_numbers, numbers_in, table_within, put_entry, put_lasts, Judged}
 use Rattle.checker.specs.declared.Answer.{Answer}
-use Rattle.checker.specs.declared.state.Past.{Past}
+use Rattle.checker.specs.State.{Past}
 use Rattle.checker.specs.declared.state.State.{State}
-use Rattle.checker.specs.declared.turn.Stepped.{Stepped}
 use Rattle.checker.specs.declared.turn.Record.{Record}
 use Rattle.checker.proofs.Table.{held_length, put_next, put_above}
 use Rattle.checker.proofs.state.Sums.{Stack}
 use Rattle.checker.proofs.Lent.{totals_length, totals_least, totals_over, totals_same, totals_more}
-use Rattle.checker.proofs.turn.Stops.{looked_numbered, keeps_all}
 use Rattle.checker.proofs.Reading.{lines_of, Reading, reading_start, Stops, Goes, On, Step, step}
 
 -- a table with those entries of the lines before in front that it holds whole
@@ -119,16 +115,6 @@ module _ {e : Edition} {below : List (List ℕ)} {file : Text} {room : ℕ} {fir
 
   pub turn_step : {rows : List ℕ} → SayAll e rows below file → (s : Stepped) → s ≡ turn_of e rows below file st → Step h.reading s
   turn_step all s q = subst (Step h.reading) (sym q) (step h.reading all)
-
-  -- a turn that goes on has read a record
-  pub read_on : {rows : List ℕ} → SayAll e rows below file → (s : Stepped) → s ≡ turn_of e rows below file st → s.stop ≡ false
-      → On h.reading s.read
-  read_on all s q stays = (turn_step all s q).goes stays
-
-  -- which keeps 21 and 20 where looking back finds nothing
-  pub looks_kept : (r : Record) (f : Finding) → f ≡ finding_of (looked_found file st r (last_in past r.kind)) → f.number ≡ 0
-      → looked_found file st r (last_in past r.kind) ≡ keeps
-  looks_kept r f q none = keeps_all _ q (looked_numbered file st r (last_in past r.kind)) none
 
   -- every open record is a line
   pub held_lines : (r : Record) → Goes h.reading r → (i : ℕ) → i < r.outer → 1 ≤ get_or st.path.lines i 0

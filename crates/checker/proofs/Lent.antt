@@ -1,11 +1,11 @@
 -- Totals in a lent list: equal where they are equal kind by kind, and one of them with so much more.
-use Prim.Native.Nat.{ℕ, zero, suc, ◌+◌, ◌≤◌, ◌<◌}
+use Prim.Native.Nat.{ℕ, zero, suc, ◌+◌, ◌≤◌, ◌<◌, min}
 use mathlib.Core.Path.{◌≡◌, refl, sym, ap, ap₂, ◌∙◌}
 use mathlib.Core.Logic.{◌≢◌}
-use mathlib.Core.List.{List, [], ◌∷◌}
+use mathlib.Core.List.{List, [], ◌∷◌, ◌++◌}
 use native.Mathlib.Omega.{arith}
 use native.Mathlib.Nat.{zero-add, add-zero}
-use lib.ListN.{length, get_or, set, length-set, get_or-eq_default}
+use lib.ListN.{replicate, drop, length, get_or, set, length-set, get_or-eq_default}
 use lib.Seq.{set_out}
 use Rattle.dirf.proofs.tests.Says.{below_or}
 use Rattle.kinds.specs.Kinds.{kinds}
@@ -116,3 +116,12 @@ module _ (f g : ℕ → ℕ) where
   totals_more t k c h this others =
       let z : k ≡ 0 + k = sym (zero-add k) in
       from_more 0 kinds t k c h (rw z at this) (rw z at others)
+
+-- where every number is 0
+pub zeros : (k n : ℕ) (t : List ℕ) → replicate (min (length t) n) 0 ++ drop (min (length t) n) t ≡ put_from (λ j. 0) k n t
+unfolding put_from
+zeros k zero t = let z : min (length t) 0 ≡ 0 = omega arith in rw z
+zeros k (suc n) [] = let z : min 0 (suc n) ≡ 0 = omega arith in rw z
+zeros k (suc n) (x ∷ t) =
+    let z : min (suc (length t)) (suc n) ≡ suc (min (length t) n) = omega arith in
+    rw z (ap (λ ys. 0 ∷ ys) (zeros (suc k) n t))

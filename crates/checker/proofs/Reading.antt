@@ -1,5 +1,5 @@
 -- What holds of the state between two lines, and what one turn makes of it: the verdict, or one record more.
-use Rattle.std.specs.Prelude.{if◌then◌else◌}
+use Rattle.std.specs.Prelude.{Ok, Err, if◌then◌else◌}
 use Prim.Native.Nat.{ℕ, zero, suc, ◌+◌, ◌*◌, ◌≤◌, ◌<◌}
 use mathlib.Core.Path.{◌≡◌, refl, sym, ap, ap₂, ◌∙◌, subst}
 use mathlib.Core.Bool.{Bool, true, false, true≢false}
@@ -35,12 +35,11 @@ use Rattle.layout.specs.LaidOut.{SayBelow}
 use Rattle.rules.proofs.Laws.{or_keeps}
 use Rattle.checker.specs.Lines.{after_line as behind_line, third_kind}
 use Rattle.checker.specs.State.{line_bytes, start_state, start_past, last_in, above, Near, past_after, state_after}
-use Rattle.checker.specs.Turn.{refused_at, halt_at, halt, Fits, looked_found, entry_of, turn_of}
+use Rattle.checker.specs.Turn.{Stepped, refused_at, halt, Fits, looked_found, entry_of, turn_of}
 use Rattle.checker.specs.Answers.{answer_of, entry_of_code, SayAll}
 use Rattle.checker.specs.declared.Answer.{Answer}
-use Rattle.checker.specs.declared.state.Past.{Past}
+use Rattle.checker.specs.State.{Past}
 use Rattle.checker.specs.declared.state.State.{State}
-use Rattle.checker.specs.declared.turn.Stepped.{Stepped}
 use Rattle.checker.specs.declared.turn.Record.{Record}
 use Rattle.checker.proofs.state.Sums.{Stack, Sums, sums_start, held_same, parent_same, held_few}
 use Rattle.checker.proofs.state.Next.{sums_next}
@@ -146,15 +145,12 @@ module _ {e : Edition} {below : List (List ℕ)} {file : Text} {room : ℕ} {st 
     pub full : looked_found file st r (last_in past r.kind) ≡ keeps → room ≤ st.count → Stop (refused_at st.count 7 0)
     pub goes : looked_found file st r (last_in past r.kind) ≡ keeps → st.count < room → Goes r
 
-  pub record Step (s : Stepped) : Type 0 where
-    pub stops : s.stop ≡ true → Stop s.answer
-    pub goes : s.stop ≡ false → On s.read
+  abbrev pub Step : Stepped → Type 0
+  Step (Ok r) = On r
+  Step (Err a) = Stop a
 
   ends : (a : Answer) (v : Verdict) → a ≡ answer_of v → v.table ≡ table_of before → v ≡ verdict e file room → Stop a
   ends a v q t w = record { answer = q ∙ ap answer_of w; table = sym (ap (λ (v : Verdict). v.table) w) ∙ t }
-
-  stopped : (s : Stepped) → s.stop ≡ true → Stop s.answer → Step s
-  stopped s d w = record { stops = λ _. w; goes = λ g. absurd (true≢false (sym d ∙ g)) }
 
   -- the file ends here
   end_is : length file ≤ st.at → {d : Bool} → st.done ≡ d → (if d then accepted before else refused before 1 0) ≡ verdict e file room
@@ -164,14 +160,14 @@ module _ {e : Edition} {below : List (List ℕ)} {file : Text} {room : ℕ} {st 
       ∙ sym (ap (λ s. run e room before (pieces s)) (drop_of_length-le file l)) ∙ h.rest
 
   end_step : length file ≤ st.at → (d : Bool) → st.done ≡ d
-      → Step (if d then halt_at (record { number = 0; line = st.count; field = 0; entries = st.count }) else halt st 1 0)
+      → Step (if d then Err (record { number = 0; line = st.count; field = 0; entries = st.count }) else halt st 1 0)
   unfolding accepted refused answer_of
   end_step l true q =
       let n = h.sums.count in
-      stopped _ refl
-      (ends _ (accepted before) (ap₂ (λ x y. record { number = 0; line = x; field = 0; entries = y }) n (n ∙ sym (table_length before)))
-      refl (end_is l q))
-  end_step l false q = stopped _ refl (ends _ (refused before 1 0) (answer_is h.sums 1 0) refl (end_is l q))
+      ends _ (accepted before)
+      (ap₂ (λ x y. record { number = 0; line = x; field = 0; entries = y }) n (n ∙ sym (table_length before)))
+      refl (end_is l q)
+  end_step l false q = ends _ (refused before 1 0) (answer_is h.sums 1 0) refl (end_is l q)
 
   module _ {rows : List ℕ} (all : SayAll e rows below file) where
     -- the declarant after one more line
@@ -269,8 +265,8 @@ module _ {e : Edition} {below : List (List ℕ)} {file : Text} {room : ℕ} {st 
       on_step = go (first early (here e room before p)) refl t.outcome
         where
           go : (f : Found) → first early (here e room before p) ≡ f → Outcome h.sums p t.rest s f → Step s
-          go keeps q o = subst Step (sym o.is_went) (record { stops = λ d. absurd (true≢false (sym d)); goes = λ _. went_on q o })
-          go (breaks n f) q o = stopped s o.stopped (broken n f s.answer (last_parts e room before p q) o.answer)
+          go keeps q o = subst Step (sym o.is_read) (went_on q o)
+          go (breaks n f) q o = subst Step (sym o) (broken n f _ (last_parts e room before p q) refl)
 
     pub step : Step (turn_of e rows below file st)
     unfolding turn_of

@@ -83,8 +83,8 @@ fn put_lasts(table: &mut [u32], lines: [u32; DEPTH], outer: usize, own: u32)
     if table.len() < NUMBERS_AN_ENTRY {
         return;
     }
-    for &line in lines[..outer].iter().rev() {
-        put_last(table, line, own);
+    for i in (0..outer).rev() {
+        put_last(table, lines[i], own);
     }
 }
 

@@ -44,6 +44,7 @@ pub(crate) struct State {
     pub(crate) path: Path,
 }
 
+#[tactic(auto, unfolding(crate::specs::State::start_state))]
 pub(crate) fn start() -> State
     ensures { result ≡ start_state }
 {
@@ -61,6 +62,7 @@ pub(crate) fn start() -> State
 }
 
 // What is remembered of each kind, before the first record.
+#[tactic(auto, unfolding(crate::specs::State::start_past))]
 pub(crate) fn nothing() -> [Last; KINDS]
     ensures { result ≡ start_past }
 {
@@ -98,6 +100,7 @@ fn held_in(below: &[[u8; COLUMNS]; HOLDERS], declarant: u32, path: Path, k: u32)
 }
 
 // The same; the opening lines belong to nothing.
+#[tactic(auto, using(std::proofs::lemmas::Bool::Decides::nat_tests), unfolding(crate::specs::State::held_at, dirf::specs::Tree::opening))]
 pub(crate) fn held_at(below: &[[u8; COLUMNS]; HOLDERS], st: State, k: u32) -> usize
     requires { st.path.depth ≤ deepest }
     ensures { (result ≡ held_at below.now st k) × (result ≤ deepest) }
@@ -110,6 +113,7 @@ pub(crate) fn held_at(below: &[[u8; COLUMNS]; HOLDERS], st: State, k: u32) -> us
 }
 
 // Not before the record that opened last there: after an INFPC or INFPA any, after a PSE none.
+#[tactic(auto, using(std::proofs::lemmas::Bool::Decides::nat_tests), unfolding(crate::specs::State::order_at, dirf::specs::Tree::may_follow, dirf::specs::Kinds::kinds_opens, dirf::specs::Bytes::bytes_opens))]
 fn order_at(path: Path, k: u32, d: usize) -> bool
     requires { path.depth ≤ deepest }
     ensures { result ≡ order_at path k d }
@@ -126,6 +130,7 @@ fn order_at(path: Path, k: u32, d: usize) -> bool
 }
 
 // From line 4 on.
+#[tactic(auto, using(std::proofs::lemmas::Bool::Decides::nat_tests), unfolding(crate::specs::State::below_on))]
 fn stands_below(path: Path, k: u32, d: usize) -> bool
     requires { path.depth ≤ deepest }
     ensures { result ≡ below_on path k d }
@@ -134,6 +139,7 @@ fn stands_below(path: Path, k: u32, d: usize) -> bool
 }
 
 // May a record of kind k stand here?
+#[tactic(auto, using(std::proofs::lemmas::Bool::Decides::nat_tests), unfolding(crate::specs::State::stands_on, dirf::specs::Tree::opening, dirf::specs::Bytes::bytes_opens))]
 fn stands(st: State, k: u32, d: usize) -> bool
     requires { st.path.depth ≤ deepest }
     ensures { result ≡ stands_on st k d }
@@ -147,6 +153,7 @@ fn stands(st: State, k: u32, d: usize) -> bool
 }
 
 // 9, 10 and 12.
+#[tactic(auto, using(std::proofs::lemmas::Bool::Decides::nat_tests), unfolding(crate::specs::State::place_found, dirf::specs::Rules::given, dirf::specs::Rules::or_else))]
 pub(crate) fn place_found(st: State, k: u32, d: usize) -> Result<(), Breach>
     requires { st.path.depth ≤ deepest }
     ensures { found_said result ≡ place_found st k d }
@@ -164,6 +171,7 @@ pub(crate) fn place_found(st: State, k: u32, d: usize) -> Result<(), Breach>
 }
 
 // 21, of a record below line p.
+#[tactic(auto, using(std::proofs::lemmas::Bool::Decides::nat_tests), unfolding(crate::specs::State::repeated_on, crate::specs::State::stood_on))]
 fn repeated(last: Last, k: u32, p: u32) -> bool
     ensures { result ≡ repeated_on last k p }
 {
@@ -171,6 +179,7 @@ fn repeated(last: Last, k: u32, p: u32) -> bool
 }
 
 // 20, of a record below line p with these fields 2 and 3.
+#[tactic(auto, using(std::proofs::lemmas::Bool::Decides::nat_tests), unfolding(crate::specs::State::key_on, crate::specs::State::stood_on, crate::specs::State::last_line, dirf::specs::Keys::has_key))]
 fn key_bad(text: &[u8], last: Last, k: u32, p: u32, second: &[u8], third: &[u8]) -> bool
     ensures { result ≡ key_on text.now last k p second.now third.now }
 {
@@ -182,6 +191,7 @@ fn key_bad(text: &[u8], last: Last, k: u32, p: u32, second: &[u8], third: &[u8])
 }
 
 // 21 and 20.
+#[tactic(auto, unfolding(crate::specs::State::look_found, dirf::specs::Rules::given, dirf::specs::Rules::or_else))]
 pub(crate) fn look_found(
     text: &[u8],
     last: Last,
@@ -201,6 +211,7 @@ pub(crate) fn look_found(
     Ok(())
 }
 
+#[tactic(auto, using(std::proofs::lemmas::Bool::Decides::nat_tests), unfolding(crate::specs::State::declarant_of))]
 fn declarant_of(st: State, k: u32) -> u32
     ensures { result ≡ declarant_of st k }
 {

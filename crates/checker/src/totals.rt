@@ -12,9 +12,8 @@ use rules::Centavos;
 pub(crate) fn clear(totals: &mut [u64])
     ensures { totals.new ≡ totals_in (λ k. 0) totals.old }
 {
-    for total in totals.iter_mut().take(KINDS) {
-        *total = 0;
-    }
+    let lent = totals.len().min(KINDS);
+    totals[..lent].fill(0);
 }
 
 // What a digit stands for.
@@ -35,7 +34,7 @@ fn sum_of(s: &[u8], n: usize) -> Centavos
     let mut left = n;
     for &b in s {
         if left == 0 {
-            break;
+            return Centavos(sum);
         }
         if b == b'|' {
             sum += one;

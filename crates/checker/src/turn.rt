@@ -52,6 +52,7 @@ pub(crate) fn refused(count: u32, breach: Breach) -> Answer
 }
 
 // 21 and 20
+#[tactic(auto, unfolding(crate::specs::Turn::looked_found))]
 pub(crate) fn looked(file: &[u8], st: State, r: Record, last: Last) -> Result<(), Breach>
     requires { r.outer ≤ deepest }
     ensures { found_said result ≡ looked_found file.now st r last }
@@ -81,6 +82,7 @@ pub(crate) fn entry_of(st: State, r: Record) -> Entry
 }
 
 // 11, then 13 to 18 and 26 by field, then 19. The kind was found by field 1, so that is its identifier.
+#[tactic(auto, using(std::proofs::lemmas::Bool::Decides::nat_tests), unfolding(crate::specs::Turn::filled_found, dirf::specs::Rules::given, dirf::specs::Rules::or_else))]
 fn filled_found(rows: &[u8; ROW_BYTES], cells: Cells, k: u32) -> Result<(), Breach>
     ensures { found_said result ≡ filled_found rows.now cells.entry.bytes.now cells.entry.places.now k }
 {
@@ -108,6 +110,7 @@ fn record_of(e: Edition, below: &[[u8; COLUMNS]; HOLDERS], cells: Cells, st: Sta
 }
 
 // 9, 10 and 12, then 11, 13 to 19 and 26
+#[tactic(auto, unfolding(crate::specs::Turn::read_step, crate::specs::Turn::found_step))]
 fn read(rows: &[u8; ROW_BYTES], cells: Cells, st: State, r: Record) -> Result<Record, Breach>
     requires { Safe st }
     ensures { stepped st result ≡ read_step rows.now cells.entry.bytes.now st cells.entry.places.now r }
@@ -118,6 +121,7 @@ fn read(rows: &[u8; ROW_BYTES], cells: Cells, st: State, r: Record) -> Result<Re
 }
 
 // 8
+#[tactic(auto, unfolding(crate::specs::Turn::record_step))]
 fn recorded(
     e: Edition,
     rows: &[u8; ROW_BYTES],
@@ -158,6 +162,7 @@ fn lined(
 }
 
 // The end, 1, 2 and 3.
+#[tactic(auto, using(std::proofs::lemmas::Bool::Decides::nat_tests), unfolding(crate::specs::Turn::turn_of))]
 pub(crate) fn turn(
     e: Edition,
     rows: &[u8; ROW_BYTES],

@@ -9,3 +9,4 @@ pub mod Determined
 pub mod Inside
 pub mod Along
 pub mod Slips
+pub mod Copies

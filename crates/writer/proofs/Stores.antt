@@ -7,11 +7,11 @@ use native.Mathlib.Numerals.{add-one}
 use native.Mathlib.Omega.{arith}
 use lib.ListN.{length, get_or, take, drop, set, length-append, drop_of_length-le}
 use lib.Seq.{drop-cons, drop-drop, sets}
-use Rattle.std.proofs.lemmas.List.Edits.{sets-eq}
 use Rattle.dirf.specs.Bytes.{Text}
 use Rattle.dirf.specs.Limits.{bar, line_end}
 use Rattle.dirf.specs.LineWriter.{cut, sum, joined, line_of}
 use Rattle.fields.specs.Places.{part_of}
+use Rattle.fields.proofs.Copies.{copied}
 
 -- a text and then another
 sets_append : (out : Text) (at : ℕ) (s t : Text) → sets out at (s ++ t) ≡ sets (sets out at s) (at + length s) t
@@ -24,7 +24,7 @@ sets_append out at (b ∷ s) t =
 pub field_stored : (field out : Text) (at n : ℕ) → n ≡ length field → at + length field < length out
     → set (take at out ++ (field ++ drop n (drop at out))) (at + length field) bar ≡ sets out at (field ++ (bar ∷ []))
 field_stored field out at n e h =
-    rw (e, drop-drop, ← append_assoc) (sym (sets_append out at field (bar ∷ []) ∙ ap (λ l. set l (at + length field) bar) (sets-eq field out at (omega arith))))
+    ap (λ l. set l (at + length field) bar) (copied out field at n e (omega arith)) ∙ sym (sets_append out at field (bar ∷ []))
 
 -- what is left of a line from length i and byte `from` on
 unfoldable pub rest : List ℕ → Text → ℕ → ℕ → Text

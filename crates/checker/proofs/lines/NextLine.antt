@@ -9,7 +9,7 @@ use native.Mathlib.Omega.{arith}
 use lib.Dec.{eqb, leb, ltb}
 use lib.ListN.{length, get_or, drop, take}
 use lib.Seq.{drop-append_seam, take-append_seam, drop-append-add}
-use borrow.Author.Tests.{lt-leb, ne_eqb, eqb-true, ltb-false}
+use borrow.Author.Tests.{lt-leb, le-leb, ne_eqb, eqb-true, ltb-false}
 use Rattle.dirf.specs.Bytes.{Text, ends_with, is_empty}
 use Rattle.dirf.specs.Limits.{line_limit, CR, LF}
 use Rattle.dirf.specs.Lines.{clean, unclean, Piece, push, pieces}
@@ -27,18 +27,14 @@ pub drop_clean : (s : Text) → drop (length (clean s)) s ≡ unclean s
 drop_clean s = ap (drop (length (clean s))) (clean_unclean s) ∙ drop-append_seam (clean s) (unclean s)
 
 -- the last byte
-pub last_none : (b : ℕ) (s : Text) → length s ≤ 0 → false ≡ ends_with b s
+pub last_lem : (b : ℕ) (s : Text) → ends_with b s ≡ (leb 1 (length s) && eqb (get_or s (length s - 1) 0) b)
 unfolding ends_with
-last_none b [] h = refl
-last_none b (c ∷ s) h = absurd (omega arith)
-
-pub last_at_lem : (b : ℕ) (s : Text) → 0 < length s → eqb (get_or s (length s - 1) 0) b ≡ ends_with b s
-unfolding ends_with
-last_at_lem b [] h = absurd (omega arith)
-last_at_lem b (c ∷ []) h = refl
-last_at_lem b (c ∷ d ∷ s) h =
+last_lem b [] = refl
+last_lem b (c ∷ []) = refl
+last_lem b (c ∷ d ∷ s) =
     let e : suc (suc (length s)) - 1 ≡ suc (suc (length s) - 1) = omega arith in
-    ap (λ i. eqb (get_or (c ∷ d ∷ s) i 0) b) e ∙ last_at_lem b (d ∷ s) (omega arith)
+    last_lem b (d ∷ s)
+    ∙ rw (e, le-leb 1 (suc (length s)) (omega arith), le-leb 1 (suc (suc (length s))) (omega arith))
 
 -- what ends a line, test by test
 pub ended : (u : Text)
@@ -49,9 +45,6 @@ unfolding end_of
 ended [] = refl
 ended (b ∷ []) = refl
 ended (b ∷ c ∷ u) = rw (lt-leb (suc (suc (length u))) 0 (omega arith), lt-leb (suc (suc (length u))) 1 (omega arith))
-
-pub by_second : (u : Text) → 1 < length u → (get_or u 0 0 ≡ 10 → ⊥) → end_of u ≡ (if eqb (get_or u 1 0) 10 then 0 else 6)
-by_second u l h = rw (ended u, lt-leb (length u) 0 (omega arith), ne_eqb (get_or u 0 0) 10 h, lt-leb (length u) 1 l)
 
 -- The line that is found at the front of what is left: the first piece, and what 4, 5 and 6 say of it.
 

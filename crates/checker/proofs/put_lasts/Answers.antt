@@ -38,26 +38,17 @@ unfolding put_lasts
 returns-then-table-lt-NUMBERS_AN_ENTRY c = put-nothing _ _ _ _ c.if-table-lt-NUMBERS_AN_ENTRY.true c.requires.1
 
 pub loop-i-init : goal.loop-i-init
-unfolding put_lasts
-loop-i-init c = (omega arith, refl)
-
-pub bounds-lines-i : goal.bounds-lines-i
-unfolding put_lasts
-bounds-lines-i c = omega (arith, c.requires.0)
+loop-i-init c = refl
 
 pub put_last-requires : goal.put_last-requires
-unfolding put_lasts
 put_last-requires c = c.requires.1 _ (omega arith)
 
 pub loop-i-preserved : goal.loop-i-preserved
-unfolding put_lasts
 loop-i-preserved c =
     let l = c.loop-i in
     let a = c.args in
-    let put : c.put_last.new.table ≡ put_last l.table (get_or a.lines (l.i - 1) 0) a.own = c.put_last.ensures in (
-      (omega arith, ap length put ∙ length-put l.table (get_or a.lines (l.i - 1) 0) a.own ∙ l.invariant.0.1),
-      l.invariant.1 ∙ put_step l.table a.lines l.i a.own (omega arith) ∙ ap (λ t. put_lasts t a.lines (l.i - 1) a.own) (sym put),
-    )
+    let put : c.put_last.new.table ≡ put_last l.table (get_or a.lines (l.i - 1) 0) a.own = c.put_last.ensures in
+    l.invariant ∙ put_step l.table a.lines l.i a.own (omega arith) ∙ ap (λ t. put_lasts t a.lines (l.i - 1) a.own) (sym put)
 
 pub returns : goal.returns
 unfolding put_lasts
@@ -65,4 +56,4 @@ returns c =
     let l = c.loop-i in
     let a = c.args in
     let none : l.i ≡ 0 = omega arith in
-    sym (l.invariant.1 ∙ ap (λ i. put_lasts l.table a.lines i a.own) none)
+    sym (l.invariant ∙ ap (λ i. put_lasts l.table a.lines i a.own) none)

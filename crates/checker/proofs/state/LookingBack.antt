@@ -27,7 +27,7 @@ use Rattle.fields.proofs.PlaceLaws.{key_of_cells}
 use Rattle.kinds.specs.Kinds.{kinds}
 use Rattle.checker.specs.State.{last_in, last_line}
 use Rattle.checker.specs.State.{stood_on, repeated_on, key_on, look_found}
-use Rattle.checker.specs.declared.state.Past.{Past}
+use Rattle.checker.specs.State.{Past}
 use Rattle.checker.specs.declared.state.State.{State}
 use Rattle.checker.proofs.state.Sums.{parent_in, Sums}
 

@@ -31,7 +31,8 @@ use Rattle.layout.specs.LaidOut.{SayBelow}
 use Rattle.checker.specs.State.{last_in, above, held_at, last_line}
 use Rattle.checker.specs.State.{declarant_of, path_after, past_after, state_after}
 use Rattle.checker.specs.declared.state.Path.{Path}
-use Rattle.checker.specs.declared.state.Past.{Past}
+use Rattle.checker.specs.State.{Past, no_last}
+use Rattle.checker.specs.declared.state.Last.{Last}
 use Rattle.checker.specs.declared.state.State.{State}
 use Rattle.checker.proofs.state.Sums.{Stack, PathIs, parent_in, Remembers, Sums, held_same, parent_same}
 
@@ -78,26 +79,23 @@ past_next : (text : Text) (p : Past) (before : List Rec) → Remembers text p be
 unfolding past_after last_in last_line last_of parent_in
 past_next text p before m r at len small there =
     record {
-      sizes = (
-        length-set p.under r.kind r.parent ∙ m.sizes.0,
-        length-set p.starts r.kind at ∙ m.sizes.1,
-        length-set p.lens r.kind len ∙ m.sizes.2,
-      );
-      under = λ k s.
-          rw (set_at p.under r.parent k m.sizes.0) (by_answer (eqb r.kind k) (λ t. rw t) (λ t. rw t (m.under k s)));
+      size = length-set p r.kind last ∙ m.size;
+      under = λ k s. rw (set_at k) (by_answer (eqb r.kind k) (λ t. rw t) (λ t. rw t (m.under k s)));
       line = λ k s x.
-          rw (set_at p.starts at k m.sizes.1, set_at p.lens len k m.sizes.2)
-          (by_answer (eqb r.kind k) (λ t. rw t (λ q. there ∙ same q)) (λ t. rw t (m.line k s x)));
+          rw (set_at k) (by_answer (eqb r.kind k) (λ t. rw t (λ q. there ∙ same q)) (λ t. rw t (m.line k s x)));
     }
   where
+    last : Last
+    last = record { under = r.parent; start = at; len = len }
+
     same : {x : Rec} → some r ≡ some x → r.line ≡ x.line
     same q = cc
 
-    set_at : (l : List ℕ) (a k : ℕ) → length l ≡ kinds → get_or (set l r.kind a) k 0 ≡ (if eqb r.kind k then a else get_or l k 0)
-    set_at l a k n =
+    set_at : (k : ℕ) → get_or (set p r.kind last) k no_last ≡ (if eqb r.kind k then last else get_or p k no_last)
+    set_at k =
         by_answer (eqb r.kind k)
-        (λ t. rw (t, ← eqb-true r.kind k t) (get_or-set_same l r.kind a 0 (omega arith)))
-        (λ t. rw t (get_or-set_other l r.kind k a 0 (λ q. eqb-false r.kind k t (sym q))))
+        (λ t. rw (t, ← eqb-true r.kind k t) (get_or-set_same p r.kind last no_last (omega (arith, m.size))))
+        (λ t. rw t (get_or-set_other p r.kind k last no_last (λ q. eqb-false r.kind k t (sym q))))
 
 module _ {e : Edition} {below : List (List ℕ)} {text : Text} {st : State} {past : Past} {before : List Rec}
     (h : Sums e below text st past before) (k : ℕ) (stands : may_stand e before k ≡ true) where

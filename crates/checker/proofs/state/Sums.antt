@@ -30,9 +30,9 @@ use Rattle.dirf.proofs.tree.Levels.{level_most}
 use Rattle.kinds.specs.Kinds.{kinds}
 use Rattle.layout.specs.LaidOut.{SayBelow}
 use Rattle.checker.specs.State.{start_state, start_past, last_in, above, held_in, held_at, order_at, below_on, stands_on}
-use Rattle.checker.specs.State.{last_line}
+use Rattle.checker.specs.State.{last_line, no_last}
 use Rattle.checker.specs.declared.state.Path.{Path}
-use Rattle.checker.specs.declared.state.Past.{Past}
+use Rattle.checker.specs.State.{Past}
 use Rattle.checker.specs.declared.state.State.{State}
 
 -- place i of the open records' lines and kinds is an open record
@@ -58,8 +58,8 @@ parent_in (some r) = r.parent
 
 -- of each kind, the parent of its last record and where that record's line stands
 pub record Remembers (text : Text) (p : Past) (before : List Rec) : Type 0 where
-  pub sizes : (length p.under ≡ kinds) × (length p.starts ≡ kinds) × (length p.lens ≡ kinds)
-  pub under : (k : ℕ) → k < kinds → get_or p.under k 0 ≡ parent_in (last_of before k)
+  pub size : length p ≡ kinds
+  pub under : (k : ℕ) → k < kinds → (last_in p k).under ≡ parent_in (last_of before k)
   pub line : (k : ℕ) → k < kinds → (r : Rec) → last_of before k ≡ some r → last_line text (last_in p k) ≡ r.line
 
 -- for a sound edition, with a table that says from line 4 on what stands below the declarant
@@ -75,7 +75,7 @@ pub record Sums (e : Edition) (below : List (List ℕ)) (text : Text) (st : Stat
   pub history : History e before
 
 pub sums_start : {e : Edition} {below : List (List ℕ)} {text : Text} → Sound e → Sums e below text start_state start_past []
-unfolding start_state start_past bytes_of closed declarant opened last_of parent_in
+unfolding start_state start_past last_in bytes_of closed declarant opened last_of parent_in
 sums_start sound =
     record {
       sound = sound;
@@ -85,7 +85,7 @@ sums_start sound =
       done = refl;
       declares = refl;
       path = record { lines = refl; kinds = refl; depth = refl; stack = tt };
-      past = record { sizes = (refl, refl, refl); under = λ k l. get_or-replicate kinds k 0 0 l; line = λ k _ r q. cc };
+      past = record { size = refl; under = λ k l. ap (λ x. x.under) (get_or-replicate kinds k no_last no_last l); line = λ k _ r q. cc };
       history = start;
     }
 

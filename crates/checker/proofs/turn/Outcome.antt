@@ -1,5 +1,5 @@
 -- A turn over the state gives what document 01's rules give over the records, up to 21, 20 and 7: part by part, in their order.
-use Rattle.std.specs.Prelude.{if◌then◌else◌}
+use Rattle.std.specs.Prelude.{Ok, Err, if◌then◌else◌}
 use Prim.Native.Nat.{ℕ, zero, suc, ◌≤◌, ◌<◌}
 use mathlib.Core.Path.{◌≡◌, refl, sym, ap, ap₂, ◌∙◌, subst}
 use mathlib.Core.Bool.{Bool, true, false, not, ◌&&◌}
@@ -24,7 +24,7 @@ use Rattle.dirf.proofs.tree.History.{table_length}
 use Rattle.dirf.proofs.rules.Asked.{given_false, or_else_left, or_else_right}
 use Rattle.dirf.proofs.rules.RulesPut.{or_assoc}
 use Rattle.dirf.proofs.totals.Line.{Kept}
-use Rattle.fields.specs.Places.{most_fields, part_of, places_of, cell_at, cells_at}
+use Rattle.fields.specs.Places.{most_fields, no_place, part_of, places_of, cell_at, cells_at}
 use Rattle.fields.proofs.PlaceLaws.{places_count, places_cells}
 use Rattle.fields.proofs.Inside.{cell_is}
 use Rattle.kinds.specs.Kinds.{kinds}
@@ -34,13 +34,12 @@ use Rattle.rules.specs.Findings.{contents_found}
 use Rattle.rules.proofs.Laws.{or_keeps}
 use Rattle.checker.specs.Lines.{number_at}
 use Rattle.checker.specs.State.{held_at, last_in, place_found, look_found}
-use Rattle.checker.specs.Turn.{refused_at, halt, found_step, went, looked_found, filled_found, read_step, record_of, record_step, line_step}
+use Rattle.checker.specs.Turn.{Stepped, refused_at, halt, found_step, looked_found, filled_found, read_step, record_of, record_step, line_step}
 use Rattle.checker.specs.Turn.{turn_of}
 use Rattle.checker.specs.Answers.{answer_of, SayAll}
-use Rattle.checker.specs.declared.state.Past.{Past}
+use Rattle.checker.specs.State.{Past}
 use Rattle.checker.specs.declared.state.State.{State}
 use Rattle.checker.specs.declared.turn.Record.{Record}
-use Rattle.checker.specs.declared.turn.Stepped.{Stepped}
 use Rattle.checker.proofs.lines.NextLine.{scan_found, found_of, WholeLine, Read, read, line_is}
 use Rattle.checker.proofs.state.Sums.{Sums, parent_same, stands_same}
 use Rattle.checker.proofs.state.LookingBack.{look_same}
@@ -81,9 +80,8 @@ unfolding first ask asked_of over line_opens scan_found contents_found
 early_is e room before p = simp (← or_assoc, or_keeps)
 
 -- a line was refused
-pub record Gave (before : List Rec) (s : Stepped) (n f : ℕ) : Type 0 where
-  pub stopped : s.stop ≡ true
-  pub answer : s.answer ≡ answer_of (refused before n f)
+abbrev pub Gave : List Rec → Stepped → ℕ → ℕ → Type 0
+Gave before s n f = s ≡ Err (answer_of (refused before n f))
 
 module _ {e : Edition} {below : List (List ℕ)} {file : Text} {st : State} {past : Past} {before : List Rec}
     (h : Sums e below file st past before) where
@@ -104,10 +102,8 @@ module _ {e : Edition} {below : List (List ℕ)} {file : Text} {st : State} {pas
         kind = kd;
         outer = held_at below st kd;
         len = length ln;
-        start2 = get_or (places_of ln).starts 1 0;
-        len2 = get_or (places_of ln).lens 1 0;
-        start3 = get_or (places_of ln).starts 2 0;
-        len3 = get_or (places_of ln).lens 2 0;
+        second = get_or (places_of ln).first 1 no_place;
+        third = get_or (places_of ln).first 2 no_place;
       }
 
   abbrev pub rec : Rec
@@ -116,7 +112,7 @@ module _ {e : Edition} {below : List (List ℕ)} {file : Text} {st : State} {pas
   -- a line was read as a record
   pub record Took (p : Piece) (rest : List Piece) (s : Stepped) : Type 0 where
     pub whole : WholeLine left ln p rest
-    pub is_went : s ≡ went read_as
+    pub is_read : s ≡ Ok read_as
     pub fewer : length before < lines_limit
     pub stands : may_stand e before kd ≡ true
     pub kept : Kept e ln
@@ -139,7 +135,7 @@ module _ {e : Edition} {below : List (List ℕ)} {file : Text} {st : State} {pas
       ap₂ (λ x y. record { number = n; line = x; field = f; entries = y }) (omega (arith, h.count)) (h.count ∙ sym (table_length before))
 
   gave : (n f : ℕ) → Gave before (halt st n f) n f
-  gave n f = record { stopped = refl; answer = answer_is n f }
+  gave n f = ap Err (answer_is n f)
 
   module _ (p : Piece) (rest : List Piece) where
     -- a rule that stops where its test holds, one that stops where it does not, and a part that stops where it finds something
@@ -215,13 +211,13 @@ module _ {e : Edition} {below : List (List ℕ)} {file : Text} {st : State} {pas
     unfolding filled_found or_else given
     fill_is named =
         ap (λ n. or_else (given 11 0 (not (eqb n (count_in rows kd))))
-        (contents_found kd (cell_at ln (places_of ln) 0) (rows_in rows kd) (cells_at ln (places_of ln)))) (places_count ln)
+        (contents_found kd (field 1 (cells_at ln (places_of ln))) (rows_in rows kd) (cells_at ln (places_of ln)))) (places_count ln)
         ∙ rw (count_is all.say kd, all.say.fields kd, own named)
         (by_answer (eqb (length (fields ln)) (length (rows_of e kd)))
         (λ t.
         let n = eqb-true (length (fields ln)) (length (rows_of e kd)) t in
         let fits : length (fields ln) ≤ most_fields = omega (arith, few_rows all.say kd, n) in
-        rw (places_cells ln fits, cell_is ln 0 fits))
+        rw (places_cells ln fits))
         (λ t. rw t))
 
     -- a whole line
@@ -235,7 +231,7 @@ module _ {e : Edition} {below : List (List ℕ)} {file : Text} {st : State} {pas
         subst (Outcome p rest _) (or_keeps (fill_rule e before ln))
         (found p rest _ (fill_rule e before ln) _ keeps (fill_is (known q)) (λ f.
         let k = fields_kept f in
-        record { whole = whole; is_went = refl; fewer = fewer; stands = may q; kept = k; few = few_fields k })))))
+        record { whole = whole; is_read = refl; fewer = fewer; stands = may q; kept = k; few = few_fields k })))))
 
     -- a line as it is found
     line_outcome : (q : Read left ln (number_at left)) → length before < lines_limit

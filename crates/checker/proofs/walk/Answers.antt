@@ -1,190 +1,119 @@
 -- The loop, for the edition that it is told and that the tables say.
-use mathlib.Core.Path.{◌≡◌, ap}
+use mathlib.Core.Path.{◌≡◌, sym, ap}
 use native.Mathlib.Omega.{arith}
+use borrow.Author.Rules.{rules}
+use Rattle.std.specs.Prelude.{Ok, Err}
 use Rattle.dirf.specs.Check.{entry_numbers}
-use Rattle.dirf.specs.Rules.{keeps}
 use Rattle.dirf.proofs.tables.Editions.{amounts_named}
 use Rattle.editions.specs.Editions.{edition_says}
-use Rattle.rules.proofs.Laws.{finding_says}
-use Rattle.checker.specs.State.{last_in, state_after, past_after, Near}
-use Rattle.checker.specs.Turn.{Fits, looked_found, entry_of}
+use Rattle.dirf.specs.Rules.{keeps}
+use Rattle.checker.specs.State.{last_in, state_after, past_after}
+use Rattle.checker.specs.Turn.{looked_found, entry_of}
 use Rattle.checker.specs.declared.state.State.{State}
-use Rattle.checker.proofs.turn.Stops.{looked_numbered, keeps_all}
-use Rattle.checker.proofs.Reading.{Goes, On, Step, near}
-use Rattle.checker.proofs.Held.{held_start, as_lent, answered, turn_step, read_on, looks_kept, held_lines, addable}
-use Rattle.checker.proofs.Held.{held_next}
+use Rattle.checker.proofs.Reading.{near}
+use Rattle.checker.proofs.Held.{held_start, as_lent, answered, turn_step, held_lines, addable, held_next}
 use Rattle.checker.proofs.walk.Goals as goal
 
-pub loop-e-init : goal.loop-e-init
-unfolding entry_numbers state_after
-loop-e-init c =
+pub loop-r-init : goal.loop-r-init
+loop-r-init c =
     let held = held_start _ c.requires.sound (amounts_named (edition_says c.args.e)) c.clear.ensures c.start-st.ensures
     c.nothing-past.ensures in
     record { held = held; few = (near held.reading).few }
 
-pub turn-s-requires : goal.turn-s-requires
-unfolding entry_numbers state_after
-turn-s-requires c =
-    near c.loop-e.invariant.held.reading
+pub turn-requires : goal.turn-requires
+turn-requires c = near c.loop-r.invariant.held.reading
 
-pub returns-then-s : goal.returns-then-s
-returns-then-s c =
-    let stepped = turn_step c.loop-e.invariant.held c.requires _ c.turn-s.ensures in
-    let w = as_lent c.clear.ensures (answered c.loop-e.invariant.held _ (stepped.stops c.if-s.true)) in
-    record { judged = w.judged; totals = w.totals }
+pub returns-in-Err-clause-judged : goal.returns-in-Err-clause-judged
+returns-in-Err-clause-judged c =
+    let held = c.loop-r.invariant.held in
+    (as_lent c.clear.ensures (answered held _ (turn_step held c.requires (Err c.in-Err.answer) c.in-Err.ensures))).judged
 
-pub offset_bounds-past-i : goal.offset_bounds-past-i
-unfolding entry_numbers state_after
-offset_bounds-past-i c =
-    let on = read_on c.loop-e.invariant.held c.requires _ c.turn-s.ensures c.if-s.false in
-    omega (arith, on.fits.kind)
+pub returns-in-Err-clause-totals : goal.returns-in-Err-clause-totals
+returns-in-Err-clause-totals c =
+    let held = c.loop-r.invariant.held in
+    (as_lent c.clear.ensures (answered held _ (turn_step held c.requires (Err c.in-Err.answer) c.in-Err.ensures))).totals
 
 pub bounds-past-i : goal.bounds-past-i
-unfolding entry_numbers state_after
-bounds-past-i c =
-    let on = read_on c.loop-e.invariant.held c.requires _ c.turn-s.ensures c.if-s.false in
-    omega (arith, on.fits.kind)
+bounds-past-i c = (turn_step c.loop-r.invariant.held c.requires (Ok c.in-Ok.r) c.in-Ok.ensures).fits.kind
 
-pub offset_bounds-past-i-in-loop-e : goal.offset_bounds-past-i-in-loop-e
-unfolding entry_numbers state_after
-offset_bounds-past-i-in-loop-e c =
-    let on = read_on c.loop-e.invariant.held c.requires _ c.turn-s.ensures c.if-s.false in
-    omega (arith, on.fits.kind)
+pub looked-found-requires : goal.looked-found-requires
+looked-found-requires c = (turn_step c.loop-r.invariant.held c.requires (Ok c.in-Ok.r) c.in-Ok.ensures).fits.outer
 
-pub bounds-past-i-in-loop-e : goal.bounds-past-i-in-loop-e
-unfolding entry_numbers state_after
-bounds-past-i-in-loop-e c =
-    let on = read_on c.loop-e.invariant.held c.requires _ c.turn-s.ensures c.if-s.false in
-    omega (arith, on.fits.kind)
-
-pub offset_bounds-past-i-in-loop-e-2 : goal.offset_bounds-past-i-in-loop-e-2
-unfolding entry_numbers state_after
-offset_bounds-past-i-in-loop-e-2 c =
-    let on = read_on c.loop-e.invariant.held c.requires _ c.turn-s.ensures c.if-s.false in
-    omega (arith, on.fits.kind)
-
-pub bounds-past-i-in-loop-e-2 : goal.bounds-past-i-in-loop-e-2
-unfolding entry_numbers state_after
-bounds-past-i-in-loop-e-2 c =
-    let on = read_on c.loop-e.invariant.held c.requires _ c.turn-s.ensures c.if-s.false in
-    omega (arith, on.fits.kind)
-
-pub looked-f-requires : goal.looked-f-requires
-unfolding entry_numbers state_after
-looked-f-requires c =
-    let on = read_on c.loop-e.invariant.held c.requires _ c.turn-s.ensures c.if-s.false in
-    on.fits.outer
-
-pub returns-then-f-ne0 : goal.returns-then-f-ne0
+pub returns-in-Err-found-clause-judged : goal.returns-in-Err-found-clause-judged
 unfolding last_in
-returns-then-f-ne0 c =
-    let on = read_on c.loop-e.invariant.held c.requires _ c.turn-s.ensures c.if-s.false in
-    let q = finding_says _ c.looked-f.ensures c.if-f-ne0.true in
-    let w = as_lent c.clear.ensures (answered c.loop-e.invariant.held _ (on.refuses _ _ q)) in
-    record { judged = record { answer = cc (w.judged.answer); entries = w.judged.entries }; totals = w.totals }
+returns-in-Err-found-clause-judged c =
+    let held = c.loop-r.invariant.held in
+    let on = turn_step held c.requires (Ok c.in-Ok.r) c.in-Ok.ensures in
+    rw c.refused.ensures (as_lent c.clear.ensures (answered held _ (on.refuses _ _ (sym c.in-Err-found.ensures)))).judged
 
-pub returns-then-room-st : goal.returns-then-room-st
+pub returns-in-Err-found-clause-totals : goal.returns-in-Err-found-clause-totals
 unfolding last_in
-returns-then-room-st c =
-    let on = read_on c.loop-e.invariant.held c.requires _ c.turn-s.ensures c.if-s.false in
-    let kept = looks_kept c.loop-e.invariant.held c.turn-s.result.read c.looked-f.result c.looked-f.ensures (omega arith) in
-    let w = as_lent c.clear.ensures (answered c.loop-e.invariant.held _ (on.full kept c.if-room-st.true)) in
-    record { judged = record { answer = cc (w.judged.answer); entries = w.judged.entries }; totals = w.totals }
+returns-in-Err-found-clause-totals c =
+    let held = c.loop-r.invariant.held in
+    let on = turn_step held c.requires (Ok c.in-Ok.r) c.in-Ok.ensures in
+    (as_lent c.clear.ensures (answered held _ (on.refuses _ _ (sym c.in-Err-found.ensures)))).totals
+
+-- 7 is asked of a line that keeps 21 and 20
+pub returns-then-room-st-clause-judged : goal.returns-then-room-st-clause-judged
+unfolding last_in
+returns-then-room-st-clause-judged c =
+    let held = c.loop-r.invariant.held in
+    let on = turn_step held c.requires (Ok c.in-Ok.r) c.in-Ok.ensures in
+    let kept : looked_found c.args.file.now c.loop-r.st c.in-Ok.r (last_in c.loop-r.past c.in-Ok.r.kind) ≡ keeps = search rules in
+    rw (c.refused-then-room-st.ensures, c.from.ensures)
+    (as_lent c.clear.ensures (answered held _ (on.full kept c.if-room-st.true))).judged
+
+pub returns-then-room-st-clause-totals : goal.returns-then-room-st-clause-totals
+unfolding last_in
+returns-then-room-st-clause-totals c =
+    let held = c.loop-r.invariant.held in
+    let on = turn_step held c.requires (Ok c.in-Ok.r) c.in-Ok.ensures in
+    let kept : looked_found c.args.file.now c.loop-r.st c.in-Ok.r (last_in c.loop-r.past c.in-Ok.r.kind) ≡ keeps = search rules in
+    (as_lent c.clear.ensures (answered held _ (on.full kept c.if-room-st.true))).totals
 
 pub entry_of-entry-requires : goal.entry_of-entry-requires
-unfolding entry_numbers state_after
-entry_of-entry-requires c =
-    let on = read_on c.loop-e.invariant.held c.requires _ c.turn-s.ensures c.if-s.false in
-    on.fits
-
-pub overflow_add-own : goal.overflow_add-own
-unfolding entry_numbers state_after
-overflow_add-own c =
-    omega (arith, c.loop-e.invariant.few)
-
-pub put_entry-requires : goal.put_entry-requires
-unfolding entry_numbers state_after
-put_entry-requires c =
-    (c.loop-e.invariant.few, rw c.entry_numbers-row.ensures)
+entry_of-entry-requires c = (turn_step c.loop-r.invariant.held c.requires (Ok c.in-Ok.r) c.in-Ok.ensures).fits
 
 pub put_lasts-requires : goal.put_lasts-requires
-unfolding entry_numbers state_after last_in
+unfolding last_in
 put_lasts-requires c =
-    let on = read_on c.loop-e.invariant.held c.requires _ c.turn-s.ensures c.if-s.false in
-    let goes = on.goes (looks_kept c.loop-e.invariant.held c.turn-s.result.read _ c.looked-f.ensures c.if-f-ne0.false) c.if-room-st.false in
-    (on.fits.outer, held_lines c.loop-e.invariant.held c.turn-s.result.read goes)
+    let held = c.loop-r.invariant.held in
+    let on = turn_step held c.requires (Ok c.in-Ok.r) c.in-Ok.ensures in
+    (on.fits.outer, held_lines held c.in-Ok.r (on.goes (sym c.in_default.ensures) c.if-room-st.false))
 
-pub offset_bounds-past-i-in-loop-e-3 : goal.offset_bounds-past-i-in-loop-e-3
-unfolding entry_numbers state_after
-offset_bounds-past-i-in-loop-e-3 c =
-    let on = read_on c.loop-e.invariant.held c.requires _ c.turn-s.ensures c.if-s.false in
-    omega (arith, on.fits.kind)
-
-pub bounds-past-i-in-loop-e-3 : goal.bounds-past-i-in-loop-e-3
-unfolding entry_numbers state_after
-bounds-past-i-in-loop-e-3 c =
-    let on = read_on c.loop-e.invariant.held c.requires _ c.turn-s.ensures c.if-s.false in
-    omega (arith, on.fits.kind)
-
-pub offset_bounds-past-i-in-loop-e-4 : goal.offset_bounds-past-i-in-loop-e-4
-unfolding entry_numbers state_after
-offset_bounds-past-i-in-loop-e-4 c =
-    let on = read_on c.loop-e.invariant.held c.requires _ c.turn-s.ensures c.if-s.false in
-    omega (arith, on.fits.kind)
-
-pub bounds-past-i-in-loop-e-4 : goal.bounds-past-i-in-loop-e-4
-unfolding entry_numbers state_after
-bounds-past-i-in-loop-e-4 c =
-    let on = read_on c.loop-e.invariant.held c.requires _ c.turn-s.ensures c.if-s.false in
-    omega (arith, on.fits.kind)
-
-pub offset_bounds-past-i-in-loop-e-5 : goal.offset_bounds-past-i-in-loop-e-5
-unfolding entry_numbers state_after
-offset_bounds-past-i-in-loop-e-5 c =
-    let on = read_on c.loop-e.invariant.held c.requires _ c.turn-s.ensures c.if-s.false in
-    omega (arith, on.fits.kind)
-
-pub bounds-past-i-in-loop-e-5 : goal.bounds-past-i-in-loop-e-5
-unfolding entry_numbers state_after
-bounds-past-i-in-loop-e-5 c =
-    let on = read_on c.loop-e.invariant.held c.requires _ c.turn-s.ensures c.if-s.false in
-    omega (arith, on.fits.kind)
+pub bounds-past-i-in-loop-r : goal.bounds-past-i-in-loop-r
+bounds-past-i-in-loop-r c = (turn_step c.loop-r.invariant.held c.requires (Ok c.in-Ok.r) c.in-Ok.ensures).fits.kind
 
 pub add_record-requires : goal.add_record-requires
-unfolding entry_numbers state_after last_in
+unfolding last_in
 add_record-requires c =
-    let on = read_on c.loop-e.invariant.held c.requires _ c.turn-s.ensures c.if-s.false in
-    let goes = on.goes (looks_kept c.loop-e.invariant.held c.turn-s.result.read _ c.looked-f.ensures c.if-f-ne0.false) c.if-room-st.false in
-    addable c.loop-e.invariant.held c.turn-s.result.read goes on.fits
+    let held = c.loop-r.invariant.held in
+    let on = turn_step held c.requires (Ok c.in-Ok.r) c.in-Ok.ensures in
+    addable held c.in-Ok.r (on.goes (sym c.in_default.ensures) c.if-room-st.false) on.fits
 
 pub state_after-st-requires : goal.state_after-st-requires
-unfolding entry_numbers state_after
 state_after-st-requires c =
-    let on = read_on c.loop-e.invariant.held c.requires _ c.turn-s.ensures c.if-s.false in
-    let f = on.fits in (f.outer, (f.safe, f.short))
+    let f = (turn_step c.loop-r.invariant.held c.requires (Ok c.in-Ok.r) c.in-Ok.ensures).fits in
+    (f.outer, (f.safe, f.short))
 
-pub loop-e-smaller : goal.loop-e-smaller
-unfolding entry_numbers state_after
-loop-e-smaller c =
-    let on = read_on c.loop-e.invariant.held c.requires _ c.turn-s.ensures c.if-s.false in
-    omega (
-      arith,
-      on.fits.safe.fewer,
-      ap (λ (x : State). x.count) c.state_after-st.ensures,
-    )
+pub loop-r-smaller : goal.loop-r-smaller
+unfolding state_after
+loop-r-smaller c =
+    let on = turn_step c.loop-r.invariant.held c.requires (Ok c.in-Ok.r) c.in-Ok.ensures in
+    omega (arith, on.fits.safe.fewer, ap (λ (x : State). x.count) c.state_after-st.ensures)
 
-pub loop-e-preserved : goal.loop-e-preserved
+pub loop-r-preserved : goal.loop-r-preserved
 unfolding entry_of past_after last_in
-loop-e-preserved c =
-    let on = read_on c.loop-e.invariant.held c.requires _ c.turn-s.ensures c.if-s.false in
-    let goes = on.goes (looks_kept c.loop-e.invariant.held c.turn-s.result.read _ c.looked-f.ensures c.if-f-ne0.false) c.if-room-st.false in
-    let next = held_next c.loop-e.invariant.held c.turn-s.result.read goes on.fits in
+loop-r-preserved c =
+    let held = c.loop-r.invariant.held in
+    let on = turn_step held c.requires (Ok c.in-Ok.r) c.in-Ok.ensures in
+    let next = held_next held c.in-Ok.r (on.goes (sym c.in_default.ensures) c.if-room-st.false) on.fits in
     rw (
       c.state_after-st.ensures,
       c.add_record.ensures,
       c.put_lasts.ensures,
       c.put_entry.ensures,
-      c.entry_numbers-row.ensures,
+      c.entry_numbers.ensures,
       c.entry_of-entry.ensures,
     )
     (record { held = next; few = (near next.reading).few })

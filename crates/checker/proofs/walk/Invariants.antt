@@ -5,11 +5,11 @@ use Rattle.editions.specs.Editions.{edition_said}
 use Rattle.checker.proofs.Held.{Held}
 use Rattle.checker.proofs.walk.Given as goal
 
-abbrev pub invariant-loop-e : goal.invariant-loop-e
-invariant-loop-e l = record {
+abbrev pub invariant-loop-r : goal.invariant-loop-r
+invariant-loop-r l = record {
   held : Held (edition_said l.e) l.below l.file l.room l.initial.table l.table l.initial.totals l.totals l.st l.past;
   few : l.st.count ≤ lines_limit;
 }
 
-abbrev pub decreases-loop-e : goal.decreases-loop-e
-decreases-loop-e l = suc lines_limit - l.st.count
+abbrev pub decreases-loop-r : goal.decreases-loop-r
+decreases-loop-r l = suc lines_limit - l.st.count

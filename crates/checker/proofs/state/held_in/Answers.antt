@@ -1,5 +1,5 @@
 -- The answer is the answer for the open records down to the i-th.
-use Prim.Native.Nat.{suc, ◌-◌}
+use Prim.Native.Nat.{◌+◌, suc, ◌-◌}
 use mathlib.Core.Path.{◌≡◌, refl, sym, ap, ◌∙◌}
 use native.Mathlib.Omega.{arith}
 use Rattle.checker.specs.State.{held_in}
@@ -13,9 +13,10 @@ pub returns-then-may_hold : goal.returns-then-may_hold
 unfolding held_in
 returns-then-may_hold c =
     let l = c.loop-i in
-    let one : l.i ≡ suc (l.i - 1) = omega arith in (
-      sym (l.invariant.1 ∙ ap (held_in _ _ _ _) one ∙ simp (← c.above.ensures, ← c.may_hold.ensures, c.if-may_hold.true) (sym one)),
-      l.invariant.0,
+    let one : l.i ≡ suc (l.i - 1) = omega arith in
+    let same : l.i - 1 + 1 ≡ suc (l.i - 1) = omega arith in (
+      same ∙ sym (l.invariant.1 ∙ ap (held_in _ _ _ _) one ∙ simp (← c.above.ensures, ← c.may_hold.ensures, c.if-may_hold.true)),
+      omega (arith, l.invariant.0),
     )
 
 pub loop-i-preserved : goal.loop-i-preserved

@@ -2,27 +2,44 @@
 use Prim.Native.Nat.{ℕ}
 use mathlib.Core.Path.{◌≡◌, sym, ap, ap₂, ◌∙◌, subst}
 use native.Mathlib.Omega.{arith}
-use lib.ListN.{drop}
+use mathlib.Core.List.{[]}
+use lib.ListN.{length, drop}
+use lib.Seq.{drop-length}
+use borrow.Author.Tests.{eqb-true}
+use Rattle.std.specs.Prelude.{Some, None}
+use Rattle.dirf.specs.Lines.{fields}
 use Rattle.dirf.specs.Bytes.{Text}
 use Rattle.dirf.specs.FieldReader.{field_start}
 use Rattle.dirf.specs.LineWriter.{sum}
 use Rattle.dirf.specs.Tables.{first_amount, amount_count, from_amounts}
 use Rattle.fields.specs.Places.{part_of, place_of}
 use Rattle.fields.specs.declared.Place.{Place}
+use Rattle.fields.proofs.Spots.{placed, unplaced}
 use Rattle.checker.specs.Totals.{add_at, sum_of, line_sum, Summable}
 use Rattle.checker.proofs.Lent.{add_past, add_none}
 use Rattle.checker.proofs.totals.add_record.Goals as goal
 
 -- the bytes behind the bar before the first amount are those from which the amounts are added
-cut : (k : ℕ) (line : Text) {part tail : Text} {p : Place} {first : ℕ} → part ≡ line → first ≡ first_amount k → p ≡ place_of part first
-    → tail ≡ drop p.start part → tail ≡ from_amounts k line
-unfolding place_of
-cut k line {part} same f q t =
-    t ∙ ap (λ x. drop x part) (ap (λ (p : Place). p.start) q ∙ ap (λ f. field_start f part) f) ∙ ap (from_amounts k) same
+cut : (k : ℕ) (line : Text) {part tail : Text} {p : Place} {first : ℕ} → part ≡ line → first ≡ first_amount k
+    → place_of part first ≡ Some p → tail ≡ drop p.start part → tail ≡ from_amounts k line
+cut k line {part} {first = f} same q e t =
+    t ∙ ap (λ x. drop x part) ((placed f part _ e).start ∙ ap (λ f. field_start f part) q) ∙ ap (from_amounts k) same
 
-pub returns-then-totals-eq0 : goal.returns-then-totals-eq0
-unfolding line_sum sum_of sum
-returns-then-totals-eq0 c = let a = c.args in sym (add_past a.totals.now a.r.kind _ (omega arith))
+-- a line that has no first amount has none
+no_amount : (k : ℕ) (line : Text) {part : Text} {first : ℕ} → part ≡ line → first ≡ first_amount k → place_of part first ≡ None
+    → length (fields (from_amounts k line)) ≡ 0
+unfolding fields
+no_amount k line {part} {first = f} same q e =
+    let past : from_amounts k line ≡ [] =
+    ap (from_amounts k) (sym same)
+    ∙ ap (λ x. drop x part) (ap (λ f. field_start f part) (sym q) ∙ (unplaced f part e).1) ∙ drop-length part in
+    ap (λ s. length (fields s)) past
+
+pub returns-then-is_empty : goal.returns-then-is_empty
+returns-then-is_empty c =
+    let a = c.args in
+    sym (add_past a.totals.now a.r.kind _
+    (omega (arith, eqb-true (length a.totals.now) 0 (sym c.if-is_empty.ensures))))
 
 pub returns-then-n-eq0 : goal.returns-then-n-eq0
 unfolding line_sum sum_of sum
@@ -34,25 +51,31 @@ returns-then-n-eq0 c =
     sym (ap (add_at t c.args.r.kind) none ∙ add_none t c.args.r.kind)
 
 pub sum_of-requires : goal.sum_of-requires
-unfolding line_sum sum_of sum place_of
 sum_of-requires c =
     let line = part_of c.args.file.now c.args.at c.args.r.len in
-    let from = cut c.args.r.kind line c.part-line.ensures.0 c.first_amount.ensures c.place_of-start.ensures c.tail.ensures in
+    let from = cut c.args.r.kind line c.part-line.ensures.0 c.first_amount.ensures (sym c.in-Some.ensures) c.tail.ensures in
     subst (λ n. Summable n c.tail.result.now) (sym c.amount_count-n.ensures)
     (subst (Summable (amount_count c.args.r.kind)) (sym from) c.requires.summable)
 
 pub add-requires : goal.add-requires
-unfolding line_sum sum_of sum place_of
+unfolding line_sum
 add-requires c =
     let line = part_of c.args.file.now c.args.at c.args.r.len in
-    let from = cut c.args.r.kind line c.part-line.ensures.0 c.first_amount.ensures c.place_of-start.ensures c.tail.ensures in
+    let from = cut c.args.r.kind line c.part-line.ensures.0 c.first_amount.ensures (sym c.in-Some.ensures) c.tail.ensures in
     let summed : c.sum_of.result.0 ≡ line_sum c.args.r.kind line = c.sum_of.ensures ∙ ap₂ sum_of c.amount_count-n.ensures from in
     rw summed c.requires.fits
 
-pub returns : goal.returns
-unfolding line_sum sum_of sum place_of
-returns c =
+pub returns-in-Some : goal.returns-in-Some
+unfolding line_sum
+returns-in-Some c =
     let line = part_of c.args.file.now c.args.at c.args.r.len in
-    let from = cut c.args.r.kind line c.part-line.ensures.0 c.first_amount.ensures c.place_of-start.ensures c.tail.ensures in
+    let from = cut c.args.r.kind line c.part-line.ensures.0 c.first_amount.ensures (sym c.in-Some.ensures) c.tail.ensures in
     let summed : c.sum_of.result.0 ≡ line_sum c.args.r.kind line = c.sum_of.ensures ∙ ap₂ sum_of c.amount_count-n.ensures from in
     c.add.ensures ∙ ap (add_at _ _) summed
+
+-- a record that has amounts has the first
+pub returns-in_default : goal.returns-in_default
+returns-in_default c =
+    let line = part_of c.args.file.now c.args.at c.args.r.len in
+    let none = no_amount c.args.r.kind line c.part-line.ensures.0 c.first_amount.ensures (sym c.in_default.ensures) in
+    absurd (c.if-n-eq0.false (omega (arith, c.amount_count-n.ensures, c.requires.summable.many, none)))

@@ -1,63 +1,52 @@
 -- Byte by byte: what is read, and what is left, come to the whole sum, and nothing is ever over it.
 use Prim.Native.Nat.{◌+◌, ◌-◌, ◌*◌, ◌^◌, ◌≤◌, ◌<◌}
+use mathlib.Core.Path.{◌≡◌}
 use native.Mathlib.Omega.{arith}
 use lib.ListN.{length, get_or}
-use Rattle.checker.specs.Totals.{sum_of}
-use Rattle.checker.proofs.totals.Sums.{Run, run_start, run_inside, run_bar, run_digit, run_end}
+use Rattle.dirf.proofs.tests.Says.{below_or}
+use Rattle.checker.proofs.totals.Sums.{run_start, run_inside, run_bar, run_digit, run_end}
 use Rattle.checker.proofs.totals.sum_of.Goals as goal
+use Rattle.checker.proofs.totals.sum_of.Goals.{then-b-eq124, else-b-eq124}
 
-pub loop-left-init : goal.loop-left-init
-loop-left-init c = run_start _ _ c.requires
+pub loop-b-init : goal.loop-b-init
+loop-b-init c = run_start _ _ c.requires
 
-pub bounds-s-i : goal.bounds-s-i
-bounds-s-i c =
-    let inside = run_inside c.loop-left.invariant c.loop-left-test.true in
-    inside
-
-pub overflow_add-i : goal.overflow_add-i
-overflow_add-i c =
-    let inside = run_inside c.loop-left.invariant c.loop-left-test.true in
-    omega (arith, inside)
+pub returns-then-left-eq0 : goal.returns-then-left-eq0
+returns-then-left-eq0 c = run_end c.loop-b.invariant c.if-left-eq0.true
 
 pub overflow_add-sum : goal.overflow_add-sum
 overflow_add-sum c =
-    let bar = run_bar c.loop-left.invariant c.loop-left-test.true c.if-b-eq124.true in
+    let bar = run_bar c.loop-b.invariant (omega arith) c.if-b-eq124.true in
     omega (arith, bar.0, c.requires.fits)
-
-pub loop-left-smaller-then-b-eq124 : goal.loop-left-smaller-then-b-eq124
-loop-left-smaller-then-b-eq124 c =
-    let inside = run_inside c.loop-left.invariant c.loop-left-test.true in
-    omega (arith, inside)
-
-pub loop-left-preserved-then-b-eq124 : goal.loop-left-preserved-then-b-eq124
-loop-left-preserved-then-b-eq124 c =
-    let bar = run_bar c.loop-left.invariant c.loop-left-test.true c.if-b-eq124.true in
-    bar.1
 
 pub overflow_mul-one : goal.overflow_mul-one
 overflow_mul-one c =
-    let digit = run_digit c.loop-left.invariant c.loop-left-test.true c.if-b-eq124.false in
+    let digit = run_digit c.loop-b.invariant (omega arith) c.if-b-eq124.false in
     omega (arith, digit.1, c.requires.fits)
 
 pub digit-requires : goal.digit-requires
-digit-requires c =
-    let digit = run_digit c.loop-left.invariant c.loop-left-test.true c.if-b-eq124.false in
-    digit.0
+digit-requires c = (run_digit c.loop-b.invariant (omega arith) c.if-b-eq124.false).0
 
 pub overflow_add-one : goal.overflow_add-one
 overflow_add-one c =
-    let digit = run_digit c.loop-left.invariant c.loop-left-test.true c.if-b-eq124.false in
+    let digit = run_digit c.loop-b.invariant (omega arith) c.if-b-eq124.false in
     omega (arith, digit.1, c.requires.fits, c.digit.ensures)
 
-pub loop-left-smaller : goal.loop-left-smaller
-loop-left-smaller c =
-    let inside = run_inside c.loop-left.invariant c.loop-left-test.true in
-    omega (arith, inside)
+pub loop-b-preserved : goal.loop-b-preserved
+loop-b-preserved c =
+    elim c.if-b-eq124.branch [
+      | then-b-eq124 w ↦
+          let bar = run_bar c.loop-b.invariant (omega arith) w.if-b-eq124.true in
+          rw (w.sum-is, w.one-is, w.left-is) bar.1
+      | else-b-eq124 w ↦
+          let digit = run_digit c.loop-b.invariant (omega arith) w.if-b-eq124.false in
+          rw (w.sum-is, w.one-is, w.left-is, w.digit.ensures) digit.2
+    ]
 
-pub loop-left-preserved : goal.loop-left-preserved
-loop-left-preserved c =
-    let digit = run_digit c.loop-left.invariant c.loop-left-test.true c.if-b-eq124.false in
-    rw c.digit.ensures digit.2
-
+-- no byte is left, so no amount is
 pub returns : goal.returns
-returns c = run_end c.loop-left.invariant (omega (arith, c.loop-left-test.false))
+returns c =
+    let l = c.loop-b in
+    let none : l.left ≡ 0 =
+    below_or l.left 0 (λ h. absurd (omega (arith, run_inside l.invariant h, c.loop-b-test.false))) (λ h. omega arith) in
+    run_end l.invariant none
