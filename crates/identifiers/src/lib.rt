@@ -292,7 +292,7 @@ fn known(s: &[u8]) -> u32
 }
 
 // The kind that an identifier names in an edition; 0: unknown.
-#[tactic(auto, using(crate::proofs::Older::tests), unfolding(dirf::specs::Editions::edition_named, dirf::specs::Edition::edition_opens))]
+#[tactic(auto, using(crate::proofs::Older::by_tests), unfolding(dirf::specs::Editions::edition_named, dirf::specs::Edition::edition_opens))]
 pub fn kind_of(e: Edition, s: &[u8]) -> u32
     ensures { result ≡ kind_of (edition_said e) s.now }
 {
