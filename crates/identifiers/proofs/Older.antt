@@ -43,4 +43,4 @@ unfolding is_in some
 in_older s = sym (older s) ∙ rw or-false
 
 -- for the prover's own search
-pub ruleset tests = (in_older, nat_tests)
+pub ruleset by_tests = (in_older, nat_tests)

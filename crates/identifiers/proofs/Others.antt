@@ -9,33 +9,33 @@ use Rattle.dirf.specs.Edition.{kind_in}
 use Rattle.identifiers.proofs.Names.{other_length, other_first}
 
 module _ (text : Text) where
-  abbrev Not : ℕ → Type 0
-  Not b = get_or text 0 0 ≡ b → ⊥
+  abbrev NotFirst : ℕ → Type 0
+  NotFirst b = get_or text 0 0 ≡ b → ⊥
 
-  abbrev None : Type 0
-  None = kind_in names2025 text ≡ 0
+  abbrev NoKind : Type 0
+  NoKind = kind_in names2025 text ≡ 0
 
   pub of_other_length : (length text ≡ 3 → ⊥) → (length text ≡ 4 → ⊥) → (length text ≡ 5 → ⊥) → (length text ≡ 6 → ⊥)
-      → (length text ≡ 7 → ⊥) → None
+      → (length text ≡ 7 → ⊥) → NoKind
   unfolding bytes_opens
   of_other_length a b c d e = sym (other_length (7 ∷ 6 ∷ 5 ∷ 4 ∷ 3 ∷ []) refl text (((((tt, a), b), c), d), e))
 
-  pub of_three : length text ≡ 3 → Not 70 → Not 73 → Not 80 → Not 82 → Not 83 → None
+  pub of_three : length text ≡ 3 → NotFirst 70 → NotFirst 73 → NotFirst 80 → NotFirst 82 → NotFirst 83 → NoKind
   unfolding bytes_opens
   of_three l f i p r s = sym (other_first 3 (bytes "SRPIF") refl text l (((((tt, f), i), p), r), s))
 
-  pub of_four : length text ≡ 4 → Not 67 → Not 68 → Not 69 → Not 79 → Not 80 → Not 82 → Not 84 → None
+  pub of_four : length text ≡ 4 → NotFirst 67 → NotFirst 68 → NotFirst 69 → NotFirst 79 → NotFirst 80 → NotFirst 82 → NotFirst 84 → NoKind
   unfolding bytes_opens
   of_four l c d e o p r t = sym (other_first 4 (bytes "TRPOEDC") refl text l (((((((tt, c), d), e), o), p), r), t))
 
-  pub of_five : length text ≡ 5 → Not 66 → Not 68 → Not 73 → Not 82 → Not 86 → None
+  pub of_five : length text ≡ 5 → NotFirst 66 → NotFirst 68 → NotFirst 73 → NotFirst 82 → NotFirst 86 → NoKind
   unfolding bytes_opens
   of_five l b d i r v = sym (other_first 5 (bytes "VRIDB") refl text l (((((tt, b), d), i), r), v))
 
-  pub of_six : length text ≡ 6 → Not 66 → Not 82 → None
+  pub of_six : length text ≡ 6 → NotFirst 66 → NotFirst 82 → NoKind
   unfolding bytes_opens
   of_six l b r = sym (other_first 6 (bytes "RB") refl text l ((tt, b), r))
 
-  pub of_seven : length text ≡ 7 → Not 66 → Not 70 → Not 81 → None
+  pub of_seven : length text ≡ 7 → NotFirst 66 → NotFirst 70 → NotFirst 81 → NoKind
   unfolding bytes_opens
   of_seven l b f q = sym (other_first 7 (bytes "QFB") refl text l (((tt, b), f), q))

@@ -171,10 +171,8 @@ fn five_r(s: &[u8]) -> u32
     requires { Begins 5 "R" s.now }
     ensures { result ≡ kind_in names2025 s.now }
 {
-    if s[2] < b'R' {
-        return five_r_to_q(s);
-    }
     match s[2] {
+        0..=b'Q' => five_r_to_q(s),
         b'S' => match s[4] {
             b'N' => only(s, b"RISEN", 47),
             b'O' => only(s, b"RESPO", 2),
@@ -292,7 +290,7 @@ fn known(s: &[u8]) -> u32
 }
 
 // The kind that an identifier names in an edition; 0: unknown.
-#[tactic(auto, using(crate::proofs::Older::tests), unfolding(dirf::specs::Editions::edition_named, dirf::specs::Edition::edition_opens))]
+#[tactic(auto, using(crate::proofs::Older::by_tests), unfolding(dirf::specs::Editions::edition_named, dirf::specs::Edition::edition_opens))]
 pub fn kind_of(e: Edition, s: &[u8]) -> u32
     ensures { result ≡ kind_of (edition_said e) s.now }
 {

@@ -25,13 +25,13 @@ in_later k = leb 45 k && leb k 47 || leb 69 k && leb k 72
 abbrev in_once : ℕ → Bool
 in_once k = leb 7 k && leb k 19 || leb 21 k && leb k 28 || leb 30 k && leb k 43 || eqb k 53 || leb 57 k && leb k 58 || eqb k 61
 
-abbrev block : ℕ → ℕ → ℕ
-block d k =
+abbrev block_by : ℕ → ℕ → ℕ
+block_by d k =
     if eqb k 6 || eqb k 44 then d
     else (if leb 49 k && leb k 50 then 48 else (if eqb k 52 || eqb k 54 then 51 else (if eqb k 56 then 55 else 0)))
 
-abbrev count : ℕ → ℕ
-count k =
+abbrev amounts : ℕ → ℕ
+amounts k =
     if leb 40 k && leb k 43 || eqb k 53 then 1
     else (if eqb k 66 || eqb k 68 then 2 else (if eqb k 58 then 0 else month_count k))
 
@@ -54,7 +54,7 @@ unfolding first_amount reimbursements is_in some
 first_is k = rw or-false
 
 -- past the kinds there is no amount and no block
-no_count : (k : ℕ) → kinds ≤ k → count k ≡ month_count k
+no_count : (k : ℕ) → kinds ≤ k → amounts k ≡ month_count k
 no_count k h = grind (arith, nat_tests)
 
 no_amounts : (k : ℕ) → kinds ≤ k → amount_count k ≡ month_count k
@@ -67,20 +67,20 @@ no_amounts k h =
       is_in_past kinds k h reimbursements refl,
     )
 
-pub count_is : (k : ℕ) → amount_count k ≡ count k
+pub count_is : (k : ℕ) → amount_count k ≡ amounts k
 unfolding amount_count month_count bytes_opens kinds_opens
-count_is = alike amount_count count refl (λ k h. no_amounts k h ∙ sym (no_count k h))
+count_is = alike amount_count amounts refl (λ k h. no_amounts k h ∙ sym (no_count k h))
 
-no_block : (d k : ℕ) → kinds ≤ k → 0 ≡ block d k
+no_block : (d k : ℕ) → kinds ≤ k → 0 ≡ block_by d k
 no_block d k h = grind (arith, nat_tests)
 
-past_blocks : (d k : ℕ) → kinds ≤ k → block_of d k ≡ block d k
+past_blocks : (d k : ℕ) → kinds ≤ k → block_of d k ≡ block_by d k
 unfolding every block_of
 past_blocks d k h = lookup_past kinds k h 0 _ refl ∙ no_block d k h
 
-pub block_is : (d k : ℕ) → block_of d k ≡ block d k
+pub block_is : (d k : ℕ) → block_of d k ≡ block_by d k
 unfolding block_of bytes_opens
-block_is d = alike (block_of d) (block d) refl (past_blocks d)
+block_is d = alike (block_of d) (block_by d) refl (past_blocks d)
 
 -- for the prover's own search
 pub ruleset later_ones = (later_is, nat_tests)

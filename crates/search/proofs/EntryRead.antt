@@ -41,8 +41,8 @@ module _ (t : List ℕ) (n : ℕ) where
     key_is file found k = k ∙ ap (key_on file) q ∙ sym (key_read file)
 
 -- for the prover's own search
-pub ruleset tests = nat_tests
+pub ruleset by_number = nat_tests
 
-pub ruleset kind = (kind_read, nat_tests)
+pub ruleset by_kind = (kind_read, nat_tests)
 
-pub ruleset idrec = (is_idrec_tests, nat_tests)
+pub ruleset by_idrec = (is_idrec_tests, nat_tests)

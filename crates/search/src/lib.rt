@@ -45,7 +45,7 @@ pub fn entries(table: &[u32], count: u32) -> &[u32]
 }
 
 // BPJDEC, BPJFCI, BPJPROC, BPJSCP
-#[tactic(auto, using(crate::proofs::EntryRead::tests), unfolding(dirf::specs::Bytes::bytes_opens, dirf::specs::Kinds::kinds_opens))]
+#[tactic(auto, using(crate::proofs::EntryRead::by_number), unfolding(dirf::specs::Bytes::bytes_opens, dirf::specs::Kinds::kinds_opens))]
 fn is_company(k: u32) -> bool
     ensures { result ≡ is_in k companies }
 {
@@ -53,7 +53,7 @@ fn is_company(k: u32) -> bool
 }
 
 // A company, or a person: BPFDEC, BPFFCI, BPFPROC, BPFRRA, BPFSCP
-#[tactic(auto, using(crate::proofs::EntryRead::tests), unfolding(dirf::specs::Bytes::bytes_opens, dirf::specs::Kinds::kinds_opens))]
+#[tactic(auto, using(crate::proofs::EntryRead::by_number), unfolding(dirf::specs::Bytes::bytes_opens, dirf::specs::Kinds::kinds_opens))]
 fn is_beneficiary(k: u32) -> bool
     ensures { result ≡ is_beneficiary k }
 {
@@ -88,7 +88,7 @@ impl<'a> Lines<'a> {
     }
 
     // The entry of line n, if it is an IDREC's.
-    #[tactic(auto, using(crate::proofs::EntryRead::idrec), unfolding(dirf::specs::Search::entries_in))]
+    #[tactic(auto, using(crate::proofs::EntryRead::by_idrec), unfolding(dirf::specs::Search::entries_in))]
     fn idrec(&self, n: u32) -> Result<Entry, Refusal>
         ensures { EntryIf (is_idrec self.now.table.now n && is_within self.now.file.now self.now.table.now n)
             (entry_in self.now.table.now n) result }
@@ -105,7 +105,7 @@ impl<'a> Lines<'a> {
     }
 
     // The entry of line n, if the search may stop there, or look at its key.
-    #[tactic(auto, using(crate::proofs::EntryRead::kind))]
+    #[tactic(auto, using(crate::proofs::EntryRead::by_kind))]
     fn beneficiary(&self, n: u32) -> Result<Entry, Refusal>
         requires { (1 ≤ n) × (n ≤ entries_in self.now.table.now) }
         ensures { EntryIf (is_beneficiary (kind_in self.now.table.now n) && is_within self.now.file.now self.now.table.now n)
