@@ -2,7 +2,7 @@
 use Prim.Native.Nat.{ℕ, suc, ◌+◌, ◌/◌, ◌≤◌, ◌<◌}
 use mathlib.Core.Path.{◌≡◌, refl, sym, ap, ap₂, ◌∙◌, subst}
 use mathlib.Core.Logic.{◌≢◌}
-use mathlib.Core.Bool.{false, and-false}
+use mathlib.Core.Bool.{and-false}
 use mathlib.Core.List.{List, [], ◌∷◌, ◌++◌}
 use native.Mathlib.Omega.{arith}
 use native.Mathlib.Numerals.{add-one}
@@ -14,7 +14,7 @@ use Rattle.dirf.specs.Bytes.{Text}
 use Rattle.dirf.specs.Limits.{numbers_an_entry}
 use Rattle.dirf.specs.Kinds.{is_value}
 use Rattle.dirf.specs.Edition.{Edition}
-use Rattle.dirf.specs.Rules.{keeps, first}
+use Rattle.dirf.specs.Rules.{first}
 use Rattle.dirf.specs.Tree.{Rec, Open}
 use Rattle.dirf.specs.Order.{kind_of_line}
 use Rattle.dirf.specs.Check.{entry_of as entry_after, table_of}
@@ -30,8 +30,8 @@ use Rattle.dirf.proofs.tree.Groups.{last_none, last_next}
 use Rattle.dirf.proofs.totals.Line.{Adds, adds, added_bound}
 use Rattle.dirf.proofs.totals.Totals.{total_next, total_bound}
 use Rattle.fields.specs.Places.{part_of}
-use Rattle.checker.specs.State.{start_state, start_past, last_in, above, past_after, state_after}
-use Rattle.checker.specs.Turn.{Stepped, Fits, looked_found, entry_of, turn_of}
+use Rattle.checker.specs.State.{start_state, start_past, above, past_after, state_after}
+use Rattle.checker.specs.Turn.{Stepped, Fits, entry_of, turn_of}
 use Rattle.checker.specs.Totals.{totals_in, add_at, sum_of, line_sum, Addable}
 use Rattle.checker.specs.Answers.{entry_of_code, SayAll, with_numbers, numbers_in, table_within, put_entry, put_lasts, Judged}
 use Rattle.checker.specs.declared.Answer.{Answer}
@@ -41,7 +41,7 @@ use Rattle.checker.specs.declared.turn.Record.{Record}
 use Rattle.checker.proofs.Table.{held_length, put_next, put_above}
 use Rattle.checker.proofs.state.Sums.{Stack}
 use Rattle.checker.proofs.Lent.{totals_length, totals_least, totals_over, totals_same, totals_more}
-use Rattle.checker.proofs.Reading.{lines_of, Reading, reading_start, Stops, Goes, On, Step, step}
+use Rattle.checker.proofs.Reading.{lines_of, Reading, reading_start, Stops, Goes, Step, step}
 
 -- a table with those entries of the lines before in front that it holds whole
 abbrev entries_in : List ℕ → List Rec → List ℕ

@@ -1,3 +1,4 @@
+pub mod Opens
 pub mod Lent
 pub mod Table
 pub mod Reading

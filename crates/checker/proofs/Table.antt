@@ -21,7 +21,6 @@ use Rattle.dirf.proofs.found.Numbers.{length_from}
 use Rattle.checker.specs.Answers.{with_numbers, numbers_in, table_within, table_after, put_entry, put_last, put_lasts, Judged}
 use Rattle.checker.specs.declared.Answer.{Answer}
 use Rattle.checker.proofs.state.Sums.{Stack}
-use Rattle.checker.proofs.Lent.{totals_length}
 
 -- the numbers of entries, and the last lines of their groups
 module _ (f : ℕ → ℕ) where

@@ -7,12 +7,10 @@ use Rattle.dirf.specs.Limits.{numbers_an_entry}
 use Rattle.dirf.specs.Edition.{Edition, kind_of, name_of}
 use Rattle.dirf.specs.Check as dirf
 use Rattle.dirf.specs.Check.{Verdict, last_at, numbers_from, numbers_of, verdict}
-use Rattle.dirf.specs.Totals.{total_by}
 use Rattle.dirf.specs.Theorems.Sound.{Sound}
 use Rattle.kinds.specs.Kinds.{kinds}
 use Rattle.layout.specs.LaidOut.{SayRows, SayBelow}
 use Rattle.checker.specs.Lines.{third_kind}
-use Rattle.checker.specs.Totals.{totals_in}
 use Rattle.checker.specs.declared.Answer.{Answer}
 use Rattle.checker.specs.declared.turn.Entry.{Entry}
 

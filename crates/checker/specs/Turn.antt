@@ -1,5 +1,5 @@
 -- One line over the state, with the edition and the lent tables, part by part in document 01's order.
-use Rattle.std.specs.Prelude.{ℕ, ◌+◌, ◌≤◌, ◌<◌, true, false, not, Result, Ok, Err, List, eqb, leb, length, get_or, drop, if◌then◌else◌}
+use Rattle.std.specs.Prelude.{ℕ, ◌+◌, ◌≤◌, ◌<◌, not, Result, Ok, Err, List, eqb, leb, length, get_or, drop, if◌then◌else◌}
 use Rattle.dirf.specs.Bytes.{Text, ends_with}
 use Rattle.dirf.specs.Limits.{bar, line_limit, lines_limit}
 use Rattle.dirf.specs.Edition.{Edition, kind_of}

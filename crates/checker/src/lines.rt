@@ -32,7 +32,7 @@ fn end_of(u: &[u8]) -> Result<(), Refusal>
 }
 
 // 4, 5 or 6 of the line at the front of a text, which has n bytes.
-#[tactic(auto, using(crate::proofs::lines::NextLine::drop_clean, std::proofs::lemmas::Bool::Decides::nat_tests), unfolding(crate::specs::Lines::number_at))]
+#[tactic(auto, using(crate::proofs::lines::NextLine::line_at), unfolding(crate::specs::Lines::number_at))]
 pub(crate) fn number_at(s: &[u8], n: usize) -> Result<(), Refusal>
     requires { n ≡ length (clean s.now) }
     ensures { number_said result ≡ number_at s.now }

@@ -113,7 +113,7 @@ pub(crate) fn held_at(below: &[[u8; COLUMNS]; HOLDERS], st: State, k: u32) -> us
 }
 
 // Not before the record that opened last there: after an INFPC or INFPA any, after a PSE none.
-#[tactic(auto, using(std::proofs::lemmas::Bool::Decides::nat_tests), unfolding(crate::specs::State::order_at, dirf::specs::Tree::may_follow, dirf::specs::Kinds::kinds_opens, dirf::specs::Bytes::bytes_opens))]
+#[tactic(auto, using(std::proofs::lemmas::Bool::Decides::nat_tests), unfolding(crate::proofs::Opens::order_opens))]
 fn order_at(path: Path, k: u32, d: usize) -> bool
     requires { path.depth ≤ deepest }
     ensures { result ≡ order_at path k d }
@@ -139,7 +139,7 @@ fn stands_below(path: Path, k: u32, d: usize) -> bool
 }
 
 // May a record of kind k stand here?
-#[tactic(auto, using(std::proofs::lemmas::Bool::Decides::nat_tests), unfolding(crate::specs::State::stands_on, dirf::specs::Tree::opening, dirf::specs::Bytes::bytes_opens))]
+#[tactic(auto, using(std::proofs::lemmas::Bool::Decides::nat_tests), unfolding(crate::proofs::Opens::stands_opens))]
 fn stands(st: State, k: u32, d: usize) -> bool
     requires { st.path.depth ≤ deepest }
     ensures { result ≡ stands_on st k d }
@@ -153,7 +153,7 @@ fn stands(st: State, k: u32, d: usize) -> bool
 }
 
 // 9, 10 and 12.
-#[tactic(auto, using(std::proofs::lemmas::Bool::Decides::nat_tests), unfolding(crate::specs::State::place_found, dirf::specs::Rules::given, dirf::specs::Rules::or_else))]
+#[tactic(auto, using(std::proofs::lemmas::Bool::Decides::nat_tests), unfolding(crate::proofs::Opens::place_opens))]
 pub(crate) fn place_found(st: State, k: u32, d: usize) -> Result<(), Breach>
     requires { st.path.depth ≤ deepest }
     ensures { found_said result ≡ place_found st k d }
@@ -179,7 +179,7 @@ fn repeated(last: Last, k: u32, p: u32) -> bool
 }
 
 // 20, of a record below line p with these fields 2 and 3.
-#[tactic(auto, using(std::proofs::lemmas::Bool::Decides::nat_tests), unfolding(crate::specs::State::key_on, crate::specs::State::stood_on, crate::specs::State::last_line, dirf::specs::Keys::has_key))]
+#[tactic(auto, using(std::proofs::lemmas::Bool::Decides::nat_tests), unfolding(crate::proofs::Opens::key_opens))]
 fn key_bad(text: &[u8], last: Last, k: u32, p: u32, second: &[u8], third: &[u8]) -> bool
     ensures { result ≡ key_on text.now last k p second.now third.now }
 {

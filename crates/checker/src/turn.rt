@@ -82,7 +82,7 @@ pub(crate) fn entry_of(st: State, r: Record) -> Entry
 }
 
 // 11, then 13 to 18 and 26 by field, then 19. The kind was found by field 1, so that is its identifier.
-#[tactic(auto, using(std::proofs::lemmas::Bool::Decides::nat_tests), unfolding(crate::specs::Turn::filled_found, dirf::specs::Rules::given, dirf::specs::Rules::or_else))]
+#[tactic(auto, using(std::proofs::lemmas::Bool::Decides::nat_tests), unfolding(crate::proofs::Opens::fill_opens))]
 fn filled_found(rows: &[u8; ROW_BYTES], cells: Cells, k: u32) -> Result<(), Breach>
     ensures { found_said result ≡ filled_found rows.now cells.entry.bytes.now cells.entry.places.now k }
 {

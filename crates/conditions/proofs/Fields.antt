@@ -50,3 +50,10 @@ pub condition_field : (cells : List Text)
     ≡ conditioned (special cells) (is_empty (field 9 cells)) (is_empty (field 10 cells)) (death_unstated cells) (is_empty (field 13 cells))
 unfolding is_in some ask_conditions conditions_opens given or_else broken_field death_unstated four
 condition_field cells = rw and_assoc (five (special cells) _ _ (death_unstated cells) _)
+
+-- what the search of DECPF's conditions needs: these two, and to compute with their words
+pub ruleset decpf_rules = (condition_field, no_byte)
+
+unfoldable pub decpf_opens : Unit {0}
+unfolding special conditioned
+decpf_opens = tt

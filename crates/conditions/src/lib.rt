@@ -17,7 +17,7 @@ fn death_unstated(cells: Cells) -> bool
 }
 
 // The lowest field at which a condition of DECPF is broken.
-#[tactic(auto, using(crate::proofs::Fields::condition_field, crate::proofs::Fields::no_byte), unfolding(dirf::specs::Conditions::special, crate::proofs::Fields::conditioned))]
+#[tactic(auto, using(crate::proofs::Fields::decpf_rules), unfolding(crate::proofs::Fields::decpf_opens))]
 fn decpf_condition(cells: Cells) -> Option<u32>
     ensures { result ≡ broken_field DECPF (cells_of cells.entry) }
 {

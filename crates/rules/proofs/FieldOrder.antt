@@ -23,6 +23,7 @@ use Rattle.layout.specs.declared.Row.{Row as Codes}
 use Rattle.layout.specs.Tables.{need_of, row_of}
 use Rattle.layout.specs.Codes.{row_said}
 use Rattle.rules.specs.Findings.{number_of, FilledRight}
+use Rattle.rules.proofs.Every.{every_all}
 
 step : (n f : ℕ) (t : Bool) (later : Found) → number_of (or_else (given n f t) later) ≡ (if t then n else number_of later)
 unfolding number_of given or_else
@@ -88,5 +89,7 @@ filled_is name row s f = filled_number name (row_said row) s (λ e. omega (arith
 
 -- to compute what the codes of a row say
 unfoldable pub codes_open : Unit {0}
-unfolding is_obligatory need_of row_of row_said
+unfolding is_obligatory need_of row_of row_said ruled
 codes_open = tt
+
+pub ruleset field_rules = (empty_number, filled_number, every_all)

@@ -1,3 +1,4 @@
+pub mod Opens
 pub mod Every
 pub mod Values
 pub mod Letters

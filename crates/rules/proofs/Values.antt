@@ -62,6 +62,8 @@ days_lem y (suc (suc (suc (suc (suc (suc (suc (suc (suc (suc (suc zero))))))))))
 days_lem y (suc (suc (suc (suc (suc (suc (suc (suc (suc (suc (suc (suc zero)))))))))))) = refl
 days_lem y (suc (suc (suc (suc (suc (suc (suc (suc (suc (suc (suc (suc (suc m))))))))))))) = grind (arith, nat_tests)
 
+pub ruleset days = (days_lem, nat_tests)
+
 days_most : (y m : ℕ) → days_in y m ≤ 31
 unfolding every days_in
 days_most y m =

@@ -46,7 +46,7 @@ const MONTHS: Row = Row {
 };
 
 // A byte of the right kind: digits for N and D; no bar, CR or LF for C.
-#[tactic(auto, using(std::proofs::lemmas::Bool::Decides::nat_tests), unfolding(dirf::specs::Bytes::bytes_opens, dirf::specs::Fields::right_byte, layout::specs::Tables::format_of))]
+#[tactic(auto, using(std::proofs::lemmas::Bool::Decides::nat_tests), unfolding(crate::proofs::Opens::format_opens))]
 fn right_byte(format: u8, b: u8) -> bool
     ensures { result ≡ right_byte (format_of format) b }
 {
@@ -63,7 +63,7 @@ fn right_bytes(format: u8, s: &[u8]) -> bool
     s.iter().all(|b| right_byte(format, *b))
 }
 
-#[tactic(auto, using(std::proofs::lemmas::Bool::Decides::nat_tests), unfolding(dirf::specs::Bytes::bytes_opens, dirf::specs::Fields::size_held, layout::specs::Tables::holds_of))]
+#[tactic(auto, using(std::proofs::lemmas::Bool::Decides::nat_tests), unfolding(crate::proofs::Opens::holds_opens))]
 fn size_held(holds: u8, n: usize) -> bool
     ensures { result ≡ size_held (holds_of holds) n }
 {
@@ -87,7 +87,7 @@ fn right_size(row: Row, n: usize) -> bool
     fills && size_held(row.holds, n)
 }
 
-#[tactic(auto, using(std::proofs::lemmas::Bool::Decides::nat_tests), unfolding(dirf::specs::Bytes::bytes_opens, dirf::specs::Fields::takes_no_zero, layout::specs::Tables::holds_of))]
+#[tactic(auto, using(std::proofs::lemmas::Bool::Decides::nat_tests), unfolding(crate::proofs::Opens::holds_opens))]
 fn takes_no_zero(holds: u8) -> bool
     ensures { result ≡ takes_no_zero (holds_of holds) }
 {
@@ -124,7 +124,7 @@ fn is_leap(y: u64) -> bool
     y % 4 == 0 && (y % 100 != 0 || y % 400 == 0)
 }
 
-#[tactic(auto, using(crate::proofs::Values::days_lem, std::proofs::lemmas::Bool::Decides::nat_tests), unfolding(dirf::specs::Bytes::bytes_opens))]
+#[tactic(auto, using(crate::proofs::Values::days), unfolding(dirf::specs::Bytes::bytes_opens))]
 fn days_in(y: u64, m: u64) -> u64
     ensures { result ≡ days_in y m }
 {
@@ -156,7 +156,7 @@ fn is_date(s: &[u8]) -> bool
 }
 
 // 17: no date where there has to be one.
-#[tactic(auto, using(std::proofs::lemmas::Bool::Decides::nat_tests), unfolding(dirf::specs::Fields::dated, layout::specs::Tables::format_of))]
+#[tactic(auto, using(std::proofs::lemmas::Bool::Decides::nat_tests), unfolding(crate::proofs::Opens::format_opens))]
 fn no_such_date(format: u8, s: &[u8]) -> bool
     requires { every (right_byte (format_of format)) s.now ≡ true }
     ensures { result ≡ (dated (format_of format) && not (is_date s.now)) }
@@ -222,7 +222,7 @@ fn is_letter(holds: u8, s: &[u8]) -> bool
     is_printed(holds, only_byte(s))
 }
 
-#[tactic(auto, using(std::proofs::lemmas::Bool::Decides::nat_tests), unfolding(dirf::specs::Bytes::bytes_opens, crate::specs::Findings::only_byte, crate::specs::Findings::letter_of))]
+#[tactic(auto, using(std::proofs::lemmas::Bool::Decides::nat_tests), unfolding(crate::proofs::Opens::printed_opens))]
 fn is_printed(holds: u8, b: u8) -> bool
     ensures { result ≡ letter_of holds (b ∷ []) }
 {
@@ -249,7 +249,7 @@ fn digits_held(holds: u8, s: &[u8]) -> bool
 }
 
 // 15 to 18, then 26, of a field that is filled and whose bytes are of the right kind.
-#[tactic(auto, using(crate::proofs::FieldOrder::filled_is), unfolding(crate::proofs::FieldOrder::ruled, crate::proofs::FieldOrder::codes_open))]
+#[tactic(auto, using(crate::proofs::FieldOrder::filled_is), unfolding(crate::proofs::FieldOrder::codes_open))]
 fn filled_rule(name: &[u8], s: &[u8], row: Row) -> Result<(), Refusal>
     requires { FilledRight s.now row }
     ensures { number_said result ≡ number_of (ask_field 0 field_order name.now (row_said row) s.now) }
@@ -273,7 +273,7 @@ fn filled_rule(name: &[u8], s: &[u8], row: Row) -> Result<(), Refusal>
 }
 
 // The first of 13 to 18 and 26 that a field breaks.
-#[tactic(auto, using(crate::proofs::FieldOrder::empty_number, crate::proofs::FieldOrder::filled_number, crate::proofs::Every::every_all), unfolding(crate::proofs::FieldOrder::ruled, crate::proofs::FieldOrder::codes_open))]
+#[tactic(auto, using(crate::proofs::FieldOrder::field_rules), unfolding(crate::proofs::FieldOrder::codes_open))]
 pub fn field_rule(name: &[u8], s: &[u8], row: Row) -> Result<(), Refusal>
     ensures { number_said result ≡ number_of (ask_field 0 field_order name.now (row_said row) s.now) }
 {

@@ -8,12 +8,10 @@ ghost use Rattle.dirf.specs.Totals.{total_of};
 ghost use Rattle.dirf.specs.FieldReader.{field_there, field_start, field_length};
 ghost use Rattle.dirf.specs.Amounts.{read_amount};
 ghost use Rattle.editions.specs.Editions.{edition_says};
-ghost use Rattle.rules.specs.Findings.{amount_says};
 ghost use Rattle.checker.specs.Totals.{totals_in};
 
 use editions::Edition;
 use kinds::KINDS;
-use rules::AmountRead;
 
 // The number that the check of a file gives with room for so many entries.
 #[unsafe(no_mangle)]
@@ -42,11 +40,7 @@ pub extern "C" fn decklesail_check_field(file: &[u8], room: usize) -> u32
 fn total_at(totals: &[u64], kind: u32) -> u64
     ensures { result ≡ get_or totals.now kind 0 }
 {
-    let k = kind as usize;
-    if k < totals.len() {
-        return totals[k];
-    }
-    0
+    totals.get(kind as usize).copied().unwrap_or(0)
 }
 
 // The total of a kind over the lines that were read, in centavos; 0 for a kind that has none.
@@ -90,10 +84,7 @@ pub extern "C" fn decklesail_edition(file: &[u8]) -> u32
 pub extern "C" fn decklesail_field_there(line: &[u8], k: usize) -> u32
     ensures { result ≡ cond (field_there k line.now) 1 0 }
 {
-    if fields::field_there(line, k) {
-        return 1;
-    }
-    0
+    u32::from(fields::field_there(line, k))
 }
 
 // Where field k starts; the line's length where there is none.
@@ -101,33 +92,19 @@ pub extern "C" fn decklesail_field_there(line: &[u8], k: usize) -> u32
 pub extern "C" fn decklesail_field_start(line: &[u8], k: usize) -> usize
     ensures { result ≡ field_start k line.now }
 {
-    fields::place_of(line, k).start
+    match fields::place_of(line, k) {
+        Some(place) => place.start,
+        None => line.len(),
+    }
 }
 
 // How many bytes field k has; 0 where there is none.
 #[unsafe(no_mangle)]
+#[tactic(auto, unfolding(dirf::specs::FieldReader::field_length))]
 pub extern "C" fn decklesail_field_length(line: &[u8], k: usize) -> usize
     ensures { result ≡ field_length k line.now }
 {
-    fields::place_of(line, k).len
-}
-
-fn number_in(a: AmountRead) -> u32
-    ensures { result ≡ (amount_says a).number }
-{
-    match a {
-        AmountRead::Value(_) => 0,
-        AmountRead::Refused(n) => n,
-    }
-}
-
-fn value_in(a: AmountRead) -> u64
-    ensures { result ≡ (amount_says a).value }
-{
-    match a {
-        AmountRead::Value(c) => c.0,
-        AmountRead::Refused(_) => 0,
-    }
+    fields::field(line, k).len()
 }
 
 // 0 where an amount is read, else 14, 15 or 16.
@@ -135,7 +112,10 @@ fn value_in(a: AmountRead) -> u64
 pub extern "C" fn decklesail_amount_number(field: &[u8]) -> u32
     ensures { result ≡ (read_amount field.now).number }
 {
-    number_in(rules::read_amount(field))
+    match rules::read_amount(field) {
+        Ok(_) => 0,
+        Err(refusal) => refusal.number(),
+    }
 }
 
 // The amount in centavos, 0 where it is refused.
@@ -143,5 +123,8 @@ pub extern "C" fn decklesail_amount_number(field: &[u8]) -> u32
 pub extern "C" fn decklesail_amount_value(field: &[u8]) -> u64
     ensures { result ≡ (read_amount field.now).value }
 {
-    value_in(rules::read_amount(field))
+    match rules::read_amount(field) {
+        Ok(amount) => amount.0,
+        Err(_) => 0,
+    }
 }

@@ -84,3 +84,8 @@ pub by_edition : (e : Edition) (a : Asked) → a.names.now ≡ name_table (editi
     → (room : ℕ) → length a.contents.now ≤ 18446744073709551615
     → refusal_of a room ≡ first writer_order (writing (edition_said e) a.kind a.contents.now a.lengths.now room)
 by_edition e a n r room small = by_tables a (rw (n, r) (says _ (laid_out_lem (edition_says e)))) room small
+
+-- to compute with what the code finds, for the search of its proof
+unfoldable pub refusal_opens : Unit {0}
+unfolding refusal_of given or_else
+refusal_opens = tt

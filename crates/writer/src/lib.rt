@@ -163,7 +163,7 @@ impl<'a> Asked<'a> {
     }
 
     // The first refusal: 22, 11, 23, 13 to 18 and 26 by field, 19, 24.
-    #[tactic(auto, using(refusals::proofs::Numbers::not_0), unfolding(crate::specs::Answers::refusal_of, dirf::specs::Rules::given, dirf::specs::Rules::or_else))]
+    #[tactic(auto, using(refusals::proofs::Numbers::not_0), unfolding(crate::proofs::Refusals::refusal_opens))]
     fn refusal(self, room: usize) -> Result<(), Breach>
         ensures { found_said result ≡ refusal_of self.entry room }
     {

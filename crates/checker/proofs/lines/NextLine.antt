@@ -9,7 +9,8 @@ use native.Mathlib.Omega.{arith}
 use lib.Dec.{eqb, leb, ltb}
 use lib.ListN.{length, get_or, drop, take}
 use lib.Seq.{drop-append_seam, take-append_seam, drop-append-add}
-use borrow.Author.Tests.{lt-leb, le-leb, ne_eqb, eqb-true, ltb-false}
+use Rattle.std.proofs.lemmas.Bool.Decides.{nat_tests}
+use borrow.Author.Tests.{lt-leb, le-leb, eqb-true, ltb-false}
 use Rattle.dirf.specs.Bytes.{Text, ends_with, is_empty}
 use Rattle.dirf.specs.Limits.{line_limit, CR, LF}
 use Rattle.dirf.specs.Lines.{clean, unclean, Piece, push, pieces}
@@ -25,6 +26,8 @@ use Rattle.checker.specs.Lines.{end_of, number_at}
 -- what stands behind the bytes of a line
 pub drop_clean : (s : Text) → drop (length (clean s)) s ≡ unclean s
 drop_clean s = ap (drop (length (clean s))) (clean_unclean s) ∙ drop-append_seam (clean s) (unclean s)
+
+pub ruleset line_at = (drop_clean, nat_tests)
 
 -- the last byte
 pub last_lem : (b : ℕ) (s : Text) → ends_with b s ≡ (leb 1 (length s) && eqb (get_or s (length s - 1) 0) b)

@@ -42,8 +42,8 @@ pub record IsOpen (lines kinds : List ℕ) (i : ℕ) (o : Open) : Type 0 where
 
 -- the open records, the outermost in place 0
 abbrev pub Stack : List ℕ → List ℕ → List Open → Type 0
-Stack lines kinds [] = Unit {0}
-Stack lines kinds (o ∷ outer) = IsOpen lines kinds (length outer) o × Stack lines kinds outer
+Stack ls ks [] = Unit {0}
+Stack ls ks (o ∷ outer) = IsOpen ls ks (length outer) o × Stack ls ks outer
 
 pub record PathIs (p : Path) (os : List Open) : Type 0 where
   pub lines : length p.lines ≡ deepest
@@ -108,8 +108,8 @@ pub record Located (p : Path) (q : Place) (d : ℕ) : Type 0 where
 first_above : (lines kinds : List ℕ) (os : List Open) → Stack lines kinds os
     → (above lines (length os) ≡ number_of_first os) × (above kinds (length os) ≡ kind_of_first os)
 unfolding above number_of_first kind_of_first
-first_above lines kinds [] h = (refl, refl)
-first_above lines kinds (o ∷ os) h = (h.0.number, h.0.kind)
+first_above ls ks [] h = (refl, refl)
+first_above ls ks (o ∷ os) h = (h.0.number, h.0.kind)
 
 module _ (e : Edition) (d : ℕ) (below : List (List ℕ)) (say : SayBelow e d below) (p : Path) (k : ℕ) where
   locate : (c : Option Open) (os : List Open) → Stack p.lines p.kinds os → Inside p c (length os)

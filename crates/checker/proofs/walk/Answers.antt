@@ -3,7 +3,6 @@ use mathlib.Core.Path.{◌≡◌, sym, ap}
 use native.Mathlib.Omega.{arith}
 use borrow.Author.Rules.{rules}
 use Rattle.std.specs.Prelude.{Ok, Err}
-use Rattle.dirf.specs.Check.{entry_numbers}
 use Rattle.dirf.proofs.tables.Editions.{amounts_named}
 use Rattle.editions.specs.Editions.{edition_says}
 use Rattle.dirf.specs.Rules.{keeps}

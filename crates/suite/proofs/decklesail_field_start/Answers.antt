@@ -1,8 +1,10 @@
--- One entry of the place.
-use mathlib.Core.Path.{ap}
-use Rattle.fields.specs.Places.{place_of}
+-- The place of the field, or the line's end.
+use mathlib.Core.Path.{sym, ◌∙◌}
+use Rattle.fields.proofs.Spots.{placed, unplaced}
 use Rattle.suite.proofs.decklesail_field_start.Goals as goal
 
-pub returns : goal.returns
-unfolding place_of
-returns c = ap (λ p. p.start) c.place_of.ensures
+pub returns-in-Some : goal.returns-in-Some
+returns-in-Some c = (placed _ _ _ (sym c.place_of.ensures ∙ c.in-Some.is)).start
+
+pub returns-in-None : goal.returns-in-None
+returns-in-None c = sym (unplaced _ _ (sym c.place_of.ensures ∙ c.in-None.is)).1

@@ -1,8 +1,6 @@
 -- Byte by byte: what is read, and what is left, come to the whole sum, and nothing is ever over it.
-use Prim.Native.Nat.{◌+◌, ◌-◌, ◌*◌, ◌^◌, ◌≤◌, ◌<◌}
 use mathlib.Core.Path.{◌≡◌}
 use native.Mathlib.Omega.{arith}
-use lib.ListN.{length, get_or}
 use Rattle.dirf.proofs.tests.Says.{below_or}
 use Rattle.checker.proofs.totals.Sums.{run_start, run_inside, run_bar, run_digit, run_end}
 use Rattle.checker.proofs.totals.sum_of.Goals as goal

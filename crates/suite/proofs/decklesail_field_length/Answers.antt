@@ -1,8 +1,0 @@
--- One entry of the place.
-use mathlib.Core.Path.{ap}
-use Rattle.fields.specs.Places.{place_of}
-use Rattle.suite.proofs.decklesail_field_length.Goals as goal
-
-pub returns : goal.returns
-unfolding place_of
-returns c = ap (λ p. p.len) c.place_of.ensures
