@@ -30,7 +30,7 @@ use Rattle.dirf.proofs.tree.Groups.{last_none, last_next}
 use Rattle.dirf.proofs.totals.Line.{Adds, adds, added_bound}
 use Rattle.dirf.proofs.totals.Totals.{total_next, total_bound}
 use Rattle.fields.specs.Places.{part_of}
-use Rattle.checker.specs.State.{start_state, start_past, above, past_after, state_after}
+use Rattle.checker.specs.State.{no_open, start_state, start_past, above, past_after, state_after}
 use Rattle.checker.specs.Turn.{Stepped, Fits, entry_of, turn_of}
 use Rattle.checker.specs.Totals.{totals_in, add_at, sum_of, line_sum, Addable}
 use Rattle.checker.specs.Answers.{entry_of_code, SayAll, with_numbers, numbers_in, table_within, put_entry, put_lasts, Judged}
@@ -117,16 +117,16 @@ module _ {e : Edition} {below : List (List ℕ)} {file : Text} {room : ℕ} {fir
   turn_step all s q = subst (Step h.reading) (sym q) (step h.reading all)
 
   -- every open record is a line
-  pub held_lines : (r : Record) → Goes h.reading r → (i : ℕ) → i < r.outer → 1 ≤ get_or st.path.lines i 0
+  pub held_lines : (r : Record) → Goes h.reading r → (i : ℕ) → i < r.outer → 1 ≤ (get_or st.path.opened i no_open).line
   held_lines r g i few = go g.known g.stack (omega (arith, g.outer))
     where
-      go : {k l : ℕ} {up : List Open} → OpenRecords h.before k l up → Stack st.path.lines st.path.kinds up → i < length up
-          → 1 ≤ get_or st.path.lines i 0
+      go : {k l : ℕ} {up : List Open} → OpenRecords h.before k l up → Stack st.path.opened up → i < length up
+          → 1 ≤ (get_or st.path.opened i no_open).line
       go (none_open z) stack small = absurd (omega arith)
       go (innermost {outer = outer} a b known rest) stack small =
           below_or (length outer) i (go rest stack.1)
           (λ last. let same : length outer ≡ i = omega arith in
-          subst (λ i. 1 ≤ get_or st.path.lines i 0) same (rw stack.0.number known.line.0))
+          subst (λ i. 1 ≤ (get_or st.path.opened i no_open).line) same (rw stack.0.number known.line.0))
 
   -- a line that is taken adds what the code reads of it, to the total of its kind alone
   module _ (r : Record) (g : Goes h.reading r) (f : Fits st r) where
@@ -183,9 +183,9 @@ module _ {e : Edition} {below : List (List ℕ)} {file : Text} {room : ℕ} {fir
   pub held_next : (r : Record) → Goes h.reading r → Fits st r
       → let own = st.count + 1 in
       Held e below file room first
-      (put_lasts (put_entry t st.count (entry_numbers (entry_of_code (entry_of st r)) own)) st.path.lines r.outer own)
+      (put_lasts (put_entry t st.count (entry_numbers (entry_of_code (entry_of st r)) own)) st.path.opened r.outer own)
       lent (add_at ts r.kind (line_sum r.kind (part_of file st.at r.len)))
-      (state_after st r.kind r.outer r.len) (past_after past r.kind (above st.path.lines r.outer) st.at r.len)
+      (state_after st r.kind r.outer r.len) (past_after past r.kind (above st.path.opened r.outer).line st.at r.len)
   unfolding table_of numbers_in
   held_next r g f =
       let es = table_of h.before in
@@ -199,17 +199,17 @@ module _ {e : Edition} {below : List (List ℕ)} {file : Text} {room : ℕ} {fir
         right = h.right;
         table =
             ap₂ (λ a (c : ℕ). put_lasts (put_entry a c (entry_numbers (entry_of_code (entry_of st r)) (c + 1)))
-            st.path.lines r.outer (c + 1))
+            st.path.opened r.outer (c + 1))
             h.table n
             ∙ ap₂ (λ y d. put_lasts (put_entry (entries_in first h.before) (length es) (entry_numbers y (length es + 1)))
-            st.path.lines d (length es + 1))
+            st.path.opened d (length es + 1))
             g.entry g.outer
             ∙ ap₂ (λ a b. put_lasts (put_entry (entries_in first h.before) (length es) (entry_numbers x a))
-            st.path.lines (length g.up) b)
+            st.path.opened (length g.up) b)
             (add-one (length es) ∙ sym (last_none es (suc (length es)) (omega arith))) own
-            ∙ ap (λ a. put_lasts a st.path.lines (length g.up) (suc (length h.before))) (put_next first (last_at es) es x)
-            ∙ put_above first (last_at es) (last_at (es ++ (x ∷ []))) (es ++ (x ∷ [])) (suc (length h.before)) st.path.lines
-            st.path.kinds g.known (omega (arith, length-append es (x ∷ []), table_length h.before)) g.stack
+            ∙ ap (λ a. put_lasts a st.path.opened (length g.up) (suc (length h.before))) (put_next first (last_at es) es x)
+            ∙ put_above first (last_at es) (last_at (es ++ (x ∷ []))) (es ++ (x ∷ [])) (suc (length h.before)) st.path.opened
+            g.known (omega (arith, length-append es (x ∷ []), table_length h.before)) g.stack
             (λ j one few.
             last_next h.before g.rec g.known g.parent (omega arith) j one
             (omega (arith, length-append es (x ∷ []), table_length h.before)));

@@ -130,13 +130,13 @@ module _ {e : Edition} {below : List (List ℕ)} {file : Text} {room : ℕ} {st 
     pub known : OpenRecords before (suc (length before)) (level rec.kind) up
     pub parent : rec.parent ≡ number_of_first up
     pub outer : r.outer ≡ length up
-    pub stack : Stack st.path.lines st.path.kinds up
+    pub stack : Stack st.path.opened up
     -- its line is the one that was read, and keeps the rules of its fields
     pub line : part_of file st.at r.len ≡ rec.line
     pub kind : kind_of_line e rec.line ≡ r.kind
     pub kept : Kept e rec.line
     pub reading : Reading e below file room (state_after st r.kind r.outer r.len)
-        (past_after past r.kind (above st.path.lines r.outer) st.at r.len) (rec ∷ before)
+        (past_after past r.kind (above st.path.opened r.outer).line st.at r.len) (rec ∷ before)
 
   -- a record was read: what 21 and 20, and then 7, make of it
   pub record On (r : Record) : Type 0 where

@@ -20,6 +20,7 @@ use Rattle.dirf.proofs.tree.OpenRecords.{OpenRecords, none_open, innermost}
 use Rattle.dirf.proofs.found.Numbers.{length_from}
 use Rattle.checker.specs.Answers.{with_numbers, numbers_in, table_within, table_after, put_entry, put_last, put_lasts, Judged}
 use Rattle.checker.specs.declared.Answer.{Answer}
+use Rattle.checker.specs.declared.state.Open.{Open as Opened}
 use Rattle.checker.proofs.state.Sums.{Stack}
 
 -- the numbers of entries, and the last lines of their groups
@@ -137,21 +138,21 @@ module _ (t : List ℕ) where
     held_length = long f (take m es) (omega (arith, length-take m es))
 
   -- a line becomes the last one of each of the open records above it
-  pub put_above : {before : List Rec} (f g : ℕ → ℕ) (es : List Entry) (v : ℕ) (lines kinds : List ℕ) {k l : ℕ} {up : List Open}
-      → OpenRecords before k l up → length before ≤ length es → Stack lines kinds up
+  pub put_above : {before : List Rec} (f g : ℕ → ℕ) (es : List Entry) (v : ℕ) (opened : List Opened) {k l : ℕ} {up : List Open}
+      → OpenRecords before k l up → length before ≤ length es → Stack opened up
       → ((j : ℕ) → 1 ≤ j → j ≤ length es → g j ≡ (if is_in j (map (λ o. o.number) up) then v else f j))
-      → put_lasts (with_numbers (numbers_from f 1 (take m es)) t) lines (length up) v ≡ with_numbers (numbers_from g 1 (take m es)) t
+      → put_lasts (with_numbers (numbers_from f 1 (take m es)) t) opened (length up) v ≡ with_numbers (numbers_from g 1 (take m es)) t
   unfolding put_lasts is_in some
-  put_above f g es v lines kinds (none_open z) few stack is =
+  put_above f g es v opened (none_open z) few stack is =
       ap (λ ns. with_numbers ns t) (same_numbers f g 1 (take m es) (λ j a b. is j a (omega (arith, length-take m es))))
-  put_above f g es v lines kinds (innermost {o = o} {outer = outer} a b known rest) few stack is =
+  put_above f g es v opened (innermost {o = o} {outer = outer} a b known rest) few stack is =
       let f' : ℕ → ℕ = λ j. if eqb j o.number then v else f j in
-      ap (λ n. put_lasts (put_last (with_numbers (numbers_from f 1 (take m es)) t) n v) lines (length outer) v) stack.0.number
-      ∙ ap (λ t. put_lasts t lines (length outer) v)
+      ap (λ n. put_lasts (put_last (with_numbers (numbers_from f 1 (take m es)) t) n v) opened (length outer) v) stack.0.number
+      ∙ ap (λ t. put_lasts t opened (length outer) v)
       (put_last_lem f (take m es) (omega (arith, length-take m es)) f' o.number v known.line.0
       (λ h. omega (arith, length-take m es, known.line.1)) (rw (eq-eqb o.number o.number refl))
       (λ j d. rw (ne_eqb j o.number d)))
-      ∙ put_above f' g es v lines kinds rest few stack.1
+      ∙ put_above f' g es v opened rest few stack.1
       (λ j x y. is j x y ∙ either j (eqb j o.number) (is_in j (map (λ o. o.number) outer)))
     where
       either : (j : ℕ) (p q : Bool) → (if p || q then v else f j) ≡ (if q then v else (if p then v else f j))

@@ -11,6 +11,8 @@ use Rattle.dirf.specs.Theorems.Sound.{Sound}
 use Rattle.kinds.specs.Kinds.{kinds}
 use Rattle.layout.specs.LaidOut.{SayRows, SayBelow}
 use Rattle.checker.specs.Lines.{third_kind}
+use Rattle.checker.specs.State.{no_open}
+use Rattle.checker.specs.declared.state.Open.{Open}
 use Rattle.checker.specs.declared.Answer.{Answer}
 use Rattle.checker.specs.declared.turn.Entry.{Entry}
 
@@ -45,10 +47,10 @@ put_entry t n row = if ltb n (length t / numbers_an_entry) then sets t (numbers_
 unfoldable pub put_last : List ℕ → ℕ → ℕ → List ℕ
 put_last t n last = if leb n (length t / numbers_an_entry) then set t (numbers_an_entry * n - 1) last else t
 
--- and of the first so many of some lines, from the last of them on
-unfoldable pub put_lasts : List ℕ → List ℕ → ℕ → ℕ → List ℕ
-put_lasts t lines zero last = t
-put_lasts t lines (suc i) last = put_lasts (put_last t (get_or lines i 0) last) lines i last
+-- and of the first so many open records, from the innermost of them on
+unfoldable pub put_lasts : List ℕ → List Open → ℕ → ℕ → List ℕ
+put_lasts t opened zero last = t
+put_lasts t opened (suc i) last = put_lasts (put_last t (get_or opened i no_open).line last) opened i last
 
 -- the lent tables say an edition, as far as a file asks them
 pub record SayAll (e : Edition) (rows : List ℕ) (below : List (List ℕ)) (file : Text) : Type 0 where

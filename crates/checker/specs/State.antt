@@ -13,9 +13,14 @@ use Rattle.dirf.specs.Theorems.Belongs.{deepest}
 use Rattle.fields.specs.Places.{part_of, key_parts}
 use Rattle.kinds.specs.Kinds.{kinds}
 use Rattle.layout.specs.Tables.{holds_in}
+use Rattle.checker.specs.declared.state.Open.{Open}
 use Rattle.checker.specs.declared.state.Path.{Path}
 use Rattle.checker.specs.declared.state.Last.{Last}
 use Rattle.checker.specs.declared.state.State.{State}
+
+-- no record
+abbrev pub no_open : Open
+no_open = record { line = 0; kind = 0 }
 
 unfoldable pub start_state : State
 start_state =
@@ -24,7 +29,7 @@ start_state =
       at = 0;
       done = false;
       declarant = 0;
-      path = record { depth = 0; lines = replicate deepest 0; kinds = replicate deepest 0 };
+      path = record { depth = 0; opened = replicate deepest no_open };
     }
 
 -- what is remembered of each kind
@@ -41,23 +46,24 @@ start_past = replicate kinds no_last
 unfoldable pub last_in : Past → ℕ → Last
 last_in past k = get_or past k no_last
 
--- of the open records' lines or kinds, the one of what open record i belongs to
-unfoldable pub above : List ℕ → ℕ → ℕ
-above opened zero = 0
-above opened (suc i) = get_or opened i 0
+-- what open record i belongs to
+unfoldable pub above : List Open → ℕ → Open
+above opened zero = no_open
+above opened (suc i) = get_or opened i no_open
 
 -- of the first i open records, how many stay open for a record of kind k: those down to the innermost that may hold it
-unfoldable pub held_in : List (List ℕ) → ℕ → List ℕ → ℕ → ℕ → ℕ
+unfoldable pub held_in : List (List ℕ) → ℕ → List Open → ℕ → ℕ → ℕ
 held_in below d opened k zero = 0
-held_in below d opened k (suc i) = if holds_in below d (get_or opened i 0) (above opened i) k then suc i else held_in below d opened k i
+held_in below d opened k (suc i) =
+    if holds_in below d (get_or opened i no_open).kind (above opened i).kind k then suc i else held_in below d opened k i
 
 -- the opening lines belong to nothing
 unfoldable pub held_at : List (List ℕ) → State → ℕ → ℕ
-held_at below st k = if ltb st.count (length opening) then 0 else held_in below st.declarant st.path.kinds k st.path.depth
+held_at below st k = if ltb st.count (length opening) then 0 else held_in below st.declarant st.path.opened k st.path.depth
 
 -- not before the one that opened last there
 unfoldable pub order_at : Path → ℕ → ℕ → Bool
-order_at p k d = if ltb d p.depth then may_follow (get_or p.kinds d 0) k else true
+order_at p k d = if ltb d p.depth then may_follow (get_or p.opened d no_open).kind k else true
 
 -- from line 4 on
 unfoldable pub below_on : Path → ℕ → ℕ → Bool
@@ -96,8 +102,8 @@ declarant_of st k = if eqb st.count 2 then k else st.declarant
 -- the open records after record n, which has d of them outside it
 unfoldable pub path_after : Path → ℕ → ℕ → ℕ → Path
 path_after p k d n =
-    if opens_nothing k then record { depth = d; lines = p.lines; kinds = p.kinds }
-    else record { depth = d + 1; lines = set p.lines d n; kinds = set p.kinds d k }
+    if opens_nothing k then record { depth = d; opened = p.opened }
+    else record { depth = d + 1; opened = set p.opened d (record { line = n; kind = k }) }
 
 unfoldable pub past_after : Past → ℕ → ℕ → ℕ → ℕ → Past
 past_after p k parent start len = set p k (record { under = parent; start = start; len = len })

@@ -21,6 +21,8 @@ use Rattle.checker.specs.declared.state.Last.{Last}
 use Rattle.checker.specs.declared.state.State.{State}
 use Rattle.checker.specs.declared.turn.Entry.{Entry}
 use Rattle.checker.specs.declared.turn.Record.{Record}
+use Rattle.checker.specs.declared.turn.Tables.{Tables}
+use Rattle.editions.specs.Editions.{edition_said}
 
 -- what a record that is read needs of the state
 pub record Fits (st : State) (r : Record) : Type 0 where
@@ -54,12 +56,12 @@ found_step st (breaks n f) s = halt st n f
 unfoldable pub looked_found : Text → State → Record → Last → Found
 looked_found file st r last =
     let line = part_of file st.at r.len in
-    look_found file last r.kind (above st.path.lines r.outer)
+    look_found file last r.kind (above st.path.opened r.outer).line
     (part_of line r.second.start r.second.len) (part_of line r.third.start r.third.len)
 
 -- the entry of a record that is taken
 unfoldable pub entry_of : State → Record → Entry
-entry_of st r = record { kind = r.kind; start = st.at; len = r.len; parent = above st.path.lines r.outer }
+entry_of st r = record { kind = r.kind; start = st.at; len = r.len; parent = (above st.path.opened r.outer).line }
 
 -- 11, then 13 to 19 and 26; the kind was found by field 1, so that is its identifier
 unfoldable pub filled_found : List ℕ → Text → Places → ℕ → Found
@@ -103,3 +105,7 @@ turn_of e rows below file st =
     else (if st.done then halt st 2 0
     else (if leb lines_limit st.count then halt st 3 0
     else line_step e rows below file st))
+
+-- with the edition and the tables that are lent
+abbrev pub by_tables {ℓ} : {A : Type ℓ} → (Edition → List ℕ → List (List ℕ) → A) → Tables → A
+by_tables f t = f (edition_said t.edition) t.rows.now t.below.now

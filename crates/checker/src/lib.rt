@@ -16,14 +16,15 @@ ghost use Rattle.dirf.specs.Check.{entry_numbers, answer_to};
 ghost use Rattle.dirf.specs.Totals.{total_by, total_of};
 ghost use Rattle.editions.specs.Editions.{edition_said};
 ghost use Rattle.checker.specs.Lines.{third_kind};
+ghost use Rattle.checker.specs.State.{no_open};
+ghost use Rattle.checker.specs.Turn.{by_tables};
 ghost use Rattle.checker.specs.Totals.{totals_in};
 ghost use Rattle.checker.specs.Answers.{answer_of, table_after, entry_of_code, put_entry, put_last, put_lasts, SayAll, Judged};
 
 use editions::Edition;
-use layout::{COLUMNS, HOLDERS, ROW_BYTES};
 use refusals::{Breach, Refusal};
-use state::{DEPTH, Last};
-use turn::Entry;
+use state::{DEPTH, Last, Open};
+use turn::{Entry, Tables};
 
 // Document 02, A6: "Room in refusal 7 is now five numbers an entry".
 pub const NUMBERS_AN_ENTRY: usize = 5;
@@ -75,16 +76,16 @@ fn put_last(table: &mut [u32], n: u32, own: u32)
 }
 
 // And so of each record above it, of which there are so many.
-fn put_lasts(table: &mut [u32], lines: [u32; DEPTH], outer: usize, own: u32)
-    requires { (outer ≤ deepest) × ((i : _) → i < outer → 1 ≤ get_or lines i 0) }
-    ensures { table.new ≡ put_lasts table.old lines outer own }
+fn put_lasts(table: &mut [u32], opened: [Open; DEPTH], outer: usize, own: u32)
+    requires { (outer ≤ deepest) × ((i : _) → i < outer → 1 ≤ (get_or opened i no_open).line) }
+    ensures { table.new ≡ put_lasts table.old opened outer own }
 {
     // a check without a table spends no more on it
     if table.len() < NUMBERS_AN_ENTRY {
         return;
     }
     for i in (0..outer).rev() {
-        put_last(table, lines[i], own);
+        put_last(table, opened[i].line, own);
     }
 }
 
@@ -98,24 +99,16 @@ fn third_kind(e: Edition, file: &[u8]) -> u32
 }
 
 // Line by line, with tables that say the edition; entries go to the table where it holds them whole, and amounts to the totals.
-fn walk(
-    e: Edition,
-    rows: &[u8; ROW_BYTES],
-    below: &[[u8; COLUMNS]; HOLDERS],
-    file: &[u8],
-    room: usize,
-    table: &mut [u32],
-    totals: &mut [u64],
-) -> Answer
-    requires { SayAll (edition_said e) rows.now below.now file.now }
-    ensures judged { Judged (edition_said e) file.now room table.old table.new result }
-    ensures totals { totals.new ≡ totals_in (total_by (edition_said e) file.now room) totals.old }
+fn walk(tables: Tables, file: &[u8], room: usize, table: &mut [u32], totals: &mut [u64]) -> Answer
+    requires { by_tables SayAll tables file.now }
+    ensures judged { Judged (edition_said tables.entry.edition) file.now room table.old table.new result }
+    ensures totals { totals.new ≡ totals_in (total_by (edition_said tables.entry.edition) file.now room) totals.old }
 {
     totals::clear(totals);
     let mut st = state::start();
     let mut past = state::nothing();
     loop {
-        let r = match turn::turn(e, rows, below, file, st) {
+        let r = match tables.turn(file, st) {
             Ok(r) => r,
             Err(answer) => return answer,
         };
@@ -131,7 +124,7 @@ fn walk(
         let own = st.count + 1;
         put_entry(table, st.count, &entry_numbers(entry, own));
         let path = st.path;
-        put_lasts(table, path.lines, r.outer, own);
+        put_lasts(table, path.opened, r.outer, own);
         past[i] = Last {
             under: entry.parent,
             start: entry.start,
@@ -149,9 +142,12 @@ fn walk_pf(e: Edition, file: &[u8], room: usize, table: &mut [u32], totals: &mut
     ensures judged { Judged (edition_said e) file.now room table.old table.new result }
     ensures totals { totals.new ≡ totals_in (total_by (edition_said e) file.now room) totals.old }
 {
-    let rows = layout::row_table(e);
-    let below = layout::pf_table(e);
-    walk(e, &rows, &below, file, room, table, totals)
+    let tables = Tables {
+        edition: e,
+        rows: &layout::row_table(e),
+        below: &layout::pf_table(e),
+    };
+    walk(tables, file, room, table, totals)
 }
 
 fn walk_pj(e: Edition, file: &[u8], room: usize, table: &mut [u32], totals: &mut [u64]) -> Answer
@@ -159,9 +155,12 @@ fn walk_pj(e: Edition, file: &[u8], room: usize, table: &mut [u32], totals: &mut
     ensures judged { Judged (edition_said e) file.now room table.old table.new result }
     ensures totals { totals.new ≡ totals_in (total_by (edition_said e) file.now room) totals.old }
 {
-    let rows = layout::row_table(e);
-    let below = layout::pj_table(e);
-    walk(e, &rows, &below, file, room, table, totals)
+    let tables = Tables {
+        edition: e,
+        rows: &layout::row_table(e),
+        below: &layout::pj_table(e),
+    };
+    walk(tables, file, room, table, totals)
 }
 
 // With the tables of the file's own edition, and that of the declarant alone of the two.

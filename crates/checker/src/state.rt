@@ -17,12 +17,20 @@ pub(crate) const DEPTH: usize = 5;
 // Document 01: "Lines 1, 2, 3 are Dirf, RESPO and one of DECPF or DECPJ."
 const OPENING_LINES: u32 = 3;
 
-// The open records, outermost first: how many, their lines and their kinds.
+// A record that stands open, by its line and its kind.
+#[derive(Clone, Copy)]
+pub(crate) struct Open {
+    pub(crate) line: u32,
+    pub(crate) kind: u32,
+}
+
+const NO_RECORD: Open = Open { line: 0, kind: 0 };
+
+// The open records, outermost first, and how many they are.
 #[derive(Clone, Copy)]
 pub(crate) struct Path {
     pub(crate) depth: usize,
-    pub(crate) lines: [u32; DEPTH],
-    pub(crate) kinds: [u32; DEPTH],
+    pub(crate) opened: [Open; DEPTH],
 }
 
 // The parent's line under which a kind stood last, and where that line of it stands. Nothing of it is ever cleared.
@@ -55,8 +63,7 @@ pub(crate) fn start() -> State
         declarant: 0,
         path: Path {
             depth: 0,
-            lines: [0; DEPTH],
-            kinds: [0; DEPTH],
+            opened: [NO_RECORD; DEPTH],
         },
     }
 }
@@ -73,26 +80,22 @@ pub(crate) fn nothing() -> [Last; KINDS]
     }; KINDS]
 }
 
-// Of the open records' lines or kinds, the one of what open record j belongs to.
-pub(crate) fn above(opened: [u32; DEPTH], j: usize) -> u32
+// What open record j belongs to.
+pub(crate) fn above(opened: [Open; DEPTH], j: usize) -> Open
     requires { j ≤ deepest }
     ensures { result ≡ above_of opened j }
 {
-    if j == 0 {
-        return 0;
-    }
-    let i = j - 1;
-    opened[i]
+    if j == 0 { NO_RECORD } else { opened[j - 1] }
 }
 
 // How many open records stay open for a record of a kind: those down to the innermost that may hold it.
 fn held_in(below: &[[u8; COLUMNS]; HOLDERS], declarant: u32, path: Path, k: u32) -> usize
     requires { path.depth ≤ deepest }
-    ensures { (result ≡ held_in below.now declarant path.kinds k path.depth) × (result ≤ deepest) }
+    ensures { (result ≡ held_in below.now declarant path.opened k path.depth) × (result ≤ deepest) }
 {
-    let kinds = path.kinds;
+    let opened = path.opened;
     for i in (0..path.depth).rev() {
-        if layout::may_hold(below, declarant, kinds[i], above(kinds, i), k) {
+        if layout::may_hold(below, declarant, opened[i].kind, above(opened, i).kind, k) {
             return i + 1;
         }
     }
@@ -121,7 +124,7 @@ fn order_at(path: Path, k: u32, d: usize) -> bool
     if path.depth <= d {
         return true;
     }
-    let last = path.kinds[d];
+    let last = path.opened[d].kind;
     match last {
         20 | 29 => true,
         63 => false,
@@ -222,6 +225,7 @@ fn declarant_of(st: State, k: u32) -> u32
 }
 
 // Every record closes what was open below its parent, and opens there, unless nothing ever stands below its kind.
+#[tactic(auto, using(std::proofs::lemmas::List::set_past), unfolding(crate::specs::State::path_after))]
 fn path_after(path: Path, k: u32, d: usize, n: u32) -> Path
     requires { d ≤ deepest }
     ensures { result ≡ path_after path k d n }
@@ -235,8 +239,7 @@ fn path_after(path: Path, k: u32, d: usize, n: u32) -> Path
     if DEPTH <= d {
         return p;
     }
-    p.lines[d] = n;
-    p.kinds[d] = k;
+    p.opened[d] = Open { line: n, kind: k };
     p
 }
 

@@ -8,6 +8,8 @@ use lib.ListN.{length, get_or, length-set}
 use borrow.Author.Tests.{lt-leb}
 use Rattle.dirf.specs.Limits.{numbers_an_entry}
 use Rattle.dirf.proofs.tests.Bools.{if_cases}
+use Rattle.checker.specs.State.{no_open}
+use Rattle.checker.specs.declared.state.Open.{Open}
 use Rattle.checker.specs.Answers.{put_last, put_lasts}
 use Rattle.checker.proofs.put_lasts.Goals as goal
 
@@ -18,20 +20,20 @@ length-put t n last =
     (λ _. length-set t (numbers_an_entry * n - 1) last) (λ _. refl)
 
 -- one of them put
-put_step : (t lines : List ℕ) (i last : ℕ) → 1 ≤ i
-    → put_lasts t lines i last ≡ put_lasts (put_last t (get_or lines (i - 1) 0) last) lines (i - 1) last
+put_step : (t : List ℕ) (opened : List Open) (i last : ℕ) → 1 ≤ i
+    → put_lasts t opened i last ≡ put_lasts (put_last t ((get_or opened (i - 1) no_open).line) last) opened (i - 1) last
 unfolding put_lasts
-put_step t lines zero last one = absurd (omega arith)
-put_step t lines (suc i) last one = let q : suc i - 1 ≡ i = omega arith in rw q
+put_step t opened zero last one = absurd (omega arith)
+put_step t opened (suc i) last one = let q : suc i - 1 ≡ i = omega arith in rw q
 
 -- where the table holds no entry nothing is put
-put-nothing : (t lines : List ℕ) (i last : ℕ) → length t < numbers_an_entry → ((j : ℕ) → j < i → 1 ≤ get_or lines j 0)
-    → t ≡ put_lasts t lines i last
+put-nothing : (t : List ℕ) (opened : List Open) (i last : ℕ) → length t < numbers_an_entry → ((j : ℕ) → j < i → 1 ≤ (get_or opened j no_open).line)
+    → t ≡ put_lasts t opened i last
 unfolding put_lasts put_last
-put-nothing t lines zero last few lined = refl
-put-nothing t lines (suc i) last few lined =
-    let none : length t / numbers_an_entry < get_or lines i 0 = omega (arith, lined i (omega arith)) in
-    rw (lt-leb (get_or lines i 0) (length t / numbers_an_entry) none) (put-nothing t lines i last few (λ j h. lined j (omega arith)))
+put-nothing t opened zero last few lined = refl
+put-nothing t opened (suc i) last few lined =
+    let none : length t / numbers_an_entry < (get_or opened i no_open).line = omega (arith, lined i (omega arith)) in
+    rw (lt-leb ((get_or opened i no_open).line) (length t / numbers_an_entry) none) (put-nothing t opened i last few (λ j h. lined j (omega arith)))
 
 pub returns-then-table-lt-NUMBERS_AN_ENTRY : goal.returns-then-table-lt-NUMBERS_AN_ENTRY
 unfolding put_lasts
@@ -47,8 +49,8 @@ pub loop-i-preserved : goal.loop-i-preserved
 loop-i-preserved c =
     let l = c.loop-i in
     let a = c.args in
-    let put : c.put_last.new.table ≡ put_last l.table (get_or a.lines (l.i - 1) 0) a.own = c.put_last.ensures in
-    l.invariant ∙ put_step l.table a.lines l.i a.own (omega arith) ∙ ap (λ t. put_lasts t a.lines (l.i - 1) a.own) (sym put)
+    let put : c.put_last.new.table ≡ put_last l.table ((get_or a.opened (l.i - 1) no_open).line) a.own = c.put_last.ensures in
+    l.invariant ∙ put_step l.table a.opened l.i a.own (omega arith) ∙ ap (λ t. put_lasts t a.opened (l.i - 1) a.own) (sym put)
 
 pub returns : goal.returns
 unfolding put_lasts
@@ -56,4 +58,4 @@ returns c =
     let l = c.loop-i in
     let a = c.args in
     let none : l.i ≡ 0 = omega arith in
-    sym (l.invariant ∙ ap (λ i. put_lasts l.table a.lines i a.own) none)
+    sym (l.invariant ∙ ap (λ i. put_lasts l.table a.opened i a.own) none)

@@ -4,4 +4,4 @@ use Rattle.checker.specs.Answers.{put_lasts}
 use Rattle.checker.proofs.put_lasts.Given as goal
 
 abbrev pub invariant-loop-i : goal.invariant-loop-i
-invariant-loop-i l = put_lasts l.initial.table l.lines l.outer l.own ≡ put_lasts l.table l.lines l.i l.own
+invariant-loop-i l = put_lasts l.initial.table l.opened l.outer l.own ≡ put_lasts l.table l.opened l.i l.own

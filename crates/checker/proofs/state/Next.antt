@@ -1,7 +1,7 @@
 -- The state after a record that was taken sums up the records with that one.
 use Rattle.std.specs.Prelude.{if◌then◌else◌}
 use Prim.Native.Nat.{ℕ, suc, ◌≤◌, ◌<◌}
-use mathlib.Core.Path.{◌≡◌, refl, sym, ◌∙◌}
+use mathlib.Core.Path.{◌≡◌, refl, sym, ap, ◌∙◌}
 use mathlib.Core.Bool.{true, false}
 use mathlib.Core.List.{List, [], ◌∷◌}
 use mathlib.Core.Option.{some}
@@ -30,47 +30,38 @@ use Rattle.kinds.specs.Kinds.{kinds}
 use Rattle.layout.specs.LaidOut.{SayBelow}
 use Rattle.checker.specs.State.{last_in, above, held_at, last_line}
 use Rattle.checker.specs.State.{declarant_of, path_after, past_after, state_after}
+use Rattle.checker.specs.declared.state.Open.{Open as Opened}
 use Rattle.checker.specs.declared.state.Path.{Path}
-use Rattle.checker.specs.State.{Past, no_last}
+use Rattle.checker.specs.State.{Past, no_last, no_open}
 use Rattle.checker.specs.declared.state.Last.{Last}
 use Rattle.checker.specs.declared.state.State.{State}
 use Rattle.checker.proofs.state.Sums.{Stack, PathIs, parent_in, Remembers, Sums, held_same, parent_same}
 
 -- open records further out than d stay where they are
-stack_on : (lines kinds : List ℕ) (d n k : ℕ) (os : List Open) → length os ≤ d → Stack lines kinds os
-    → Stack (set lines d n) (set kinds d k) os
-stack_on lines kinds d n k [] fits s = tt
-stack_on lines kinds d n k (o ∷ outer) fits s = (
-  record {
-    number = get_or-set_other lines d (length outer) n 0 (λ q. omega arith) ∙ s.0.number;
-    kind = get_or-set_other kinds d (length outer) k 0 (λ q. omega arith) ∙ s.0.kind;
-  },
-  stack_on lines kinds d n k outer (omega arith) s.1,
-)
+stack_on : (rs : List Opened) (d : ℕ) (r : Opened) (os : List Open) → length os ≤ d → Stack rs os → Stack (set rs d r) os
+stack_on rs d r [] fits s = tt
+stack_on rs d r (o ∷ outer) fits s =
+    let same = get_or-set_other rs d (length outer) r no_open (λ q. omega arith) in
+    (record { number = rw same s.0.number; kind = rw same s.0.kind }, stack_on rs d r outer (omega arith) s.1)
 
 -- the path after a record, with the open records `up` outside it
-path_next : (p : Path) (os up : List Open) → PathIs p os → Stack p.lines p.kinds up → (k n : ℕ)
+path_next : (p : Path) (os up : List Open) → PathIs p os → Stack p.opened up → (k n : ℕ)
     → (opens_nothing k ≡ false → length up < deepest)
     → PathIs (path_after p k (length up) n) (if opens_nothing k then up else (record { number = n; kind = k } ∷ up))
 unfolding path_after
 path_next p os up is stack k n deep =
     by_answer (opens_nothing k)
-    (λ t. rw t (record { lines = is.lines; kinds = is.kinds; depth = refl; stack = stack }))
+    (λ t. rw t (record { size = is.size; depth = refl; stack = stack }))
     (λ t.
     let d : ℕ = length up in
     let l : d < deepest = deep t in
+    let r : Opened = record { line = n; kind = k } in
+    let here = get_or-set_same p.opened d r no_open (omega (arith, is.size)) in
     rw t
     (record {
-      lines = length-set p.lines d n ∙ is.lines;
-      kinds = length-set p.kinds d k ∙ is.kinds;
+      size = length-set p.opened d r ∙ is.size;
       depth = add-one d;
-      stack = (
-        record {
-          number = get_or-set_same p.lines d n 0 (omega (arith, is.lines));
-          kind = get_or-set_same p.kinds d k 0 (omega (arith, is.kinds));
-        },
-        stack_on p.lines p.kinds d n k up (omega arith) stack,
-      );
+      stack = (record { number = ap (λ o. o.line) here; kind = ap (λ o. o.kind) here }, stack_on p.opened d r up (omega arith) stack);
     }))
 
 -- what is remembered after a record whose line stands in the text
@@ -107,7 +98,7 @@ module _ {e : Edition} {below : List (List ℕ)} {text : Text} {st : State} {pas
       → let r : Rec = record { kind = k; line = line; parent = p } in
       (3 ≤ length (r ∷ before) → SayBelow e (declarant (r ∷ before)) below)
       → Sums e below text (state_after st k (held_at below st k) (length line))
-      (past_after past k (above st.path.lines (held_at below st k)) st.at (length line)) (r ∷ before)
+      (past_after past k (above st.path.opened (held_at below st k)).line st.at (length line)) (r ∷ before)
   unfolding state_after closed bytes_of opened parent_of declarant_of declarant opening
   sums_next line there small say =
       let q : Placed e (declarant before) k before (suc (length before)) (opened before) (place e before k) =

@@ -30,26 +30,26 @@ use Rattle.dirf.proofs.tree.Levels.{level_most}
 use Rattle.kinds.specs.Kinds.{kinds}
 use Rattle.layout.specs.LaidOut.{SayBelow}
 use Rattle.checker.specs.State.{start_state, start_past, last_in, above, held_in, held_at, order_at, below_on, stands_on}
-use Rattle.checker.specs.State.{last_line, no_last}
+use Rattle.checker.specs.State.{last_line, no_last, no_open}
+use Rattle.checker.specs.declared.state.Open.{Open as Opened}
 use Rattle.checker.specs.declared.state.Path.{Path}
 use Rattle.checker.specs.State.{Past}
 use Rattle.checker.specs.declared.state.State.{State}
 
--- place i of the open records' lines and kinds is an open record
-pub record IsOpen (lines kinds : List ℕ) (i : ℕ) (o : Open) : Type 0 where
-  pub number : get_or lines i 0 ≡ o.number
-  pub kind : get_or kinds i 0 ≡ o.kind
+-- place i of the open records is an open record
+pub record IsOpen (opened : List Opened) (i : ℕ) (o : Open) : Type 0 where
+  pub number : (get_or opened i no_open).line ≡ o.number
+  pub kind : (get_or opened i no_open).kind ≡ o.kind
 
 -- the open records, the outermost in place 0
-abbrev pub Stack : List ℕ → List ℕ → List Open → Type 0
-Stack ls ks [] = Unit {0}
-Stack ls ks (o ∷ outer) = IsOpen ls ks (length outer) o × Stack ls ks outer
+abbrev pub Stack : List Opened → List Open → Type 0
+Stack rs [] = Unit {0}
+Stack rs (o ∷ outer) = IsOpen rs (length outer) o × Stack rs outer
 
 pub record PathIs (p : Path) (os : List Open) : Type 0 where
-  pub lines : length p.lines ≡ deepest
-  pub kinds : length p.kinds ≡ deepest
+  pub size : length p.opened ≡ deepest
   pub depth : p.depth ≡ length os
-  pub stack : Stack p.lines p.kinds os
+  pub stack : Stack p.opened os
 
 -- the parent of a record, if there is one
 unfoldable pub parent_in : Option Rec → ℕ
@@ -84,7 +84,7 @@ sums_start sound =
       at = refl;
       done = refl;
       declares = refl;
-      path = record { lines = refl; kinds = refl; depth = refl; stack = tt };
+      path = record { size = refl; depth = refl; stack = tt };
       past = record { size = refl; under = λ k l. ap (λ x. x.under) (get_or-replicate kinds k no_last no_last l); line = λ k _ r q. cc };
       history = start;
     }
@@ -92,7 +92,7 @@ sums_start sound =
 -- the open record just inside place i: none, or the one in place i
 abbrev pub Inside : Path → Option Open → ℕ → Type 0
 Inside p none i = i ≡ p.depth
-Inside p (some o) i = (i < p.depth) × IsOpen p.lines p.kinds i o
+Inside p (some o) i = (i < p.depth) × IsOpen p.opened i o
 
 inside_bound : (p : Path) (c : Option Open) (i : ℕ) → Inside p c i → i ≤ p.depth
 inside_bound p none i h = omega arith
@@ -101,24 +101,24 @@ inside_bound p (some o) i h = omega (arith, h.0)
 -- the place of a kind among the open records, as the path has it
 pub record Located (p : Path) (q : Place) (d : ℕ) : Type 0 where
   pub deep : d ≡ length q.up
-  pub stack : Stack p.lines p.kinds q.up
+  pub stack : Stack p.opened q.up
   pub inside : Inside p q.last (length q.up)
 
 -- what they stand below is the innermost of them
-first_above : (lines kinds : List ℕ) (os : List Open) → Stack lines kinds os
-    → (above lines (length os) ≡ number_of_first os) × (above kinds (length os) ≡ kind_of_first os)
+first_above : (rs : List Opened) (os : List Open) → Stack rs os
+    → ((above rs (length os)).line ≡ number_of_first os) × ((above rs (length os)).kind ≡ kind_of_first os)
 unfolding above number_of_first kind_of_first
-first_above ls ks [] h = (refl, refl)
-first_above ls ks (o ∷ os) h = (h.0.number, h.0.kind)
+first_above rs [] h = (refl, refl)
+first_above rs (o ∷ os) h = (h.0.number, h.0.kind)
 
 module _ (e : Edition) (d : ℕ) (below : List (List ℕ)) (say : SayBelow e d below) (p : Path) (k : ℕ) where
-  locate : (c : Option Open) (os : List Open) → Stack p.lines p.kinds os → Inside p c (length os)
-      → Located p (place_in e d c os k) (held_in below d p.kinds k (length os))
+  locate : (c : Option Open) (os : List Open) → Stack p.opened os → Inside p c (length os)
+      → Located p (place_in e d c os k) (held_in below d p.opened k (length os))
   unfolding held_in place_in
   locate c [] s i = record { deep = refl; stack = tt; inside = i }
   locate c (o ∷ os) s i =
       let outwards = locate (some o) os s.1 (omega (arith, inside_bound p c (suc (length os)) i), s.0) in
-      rw (s.0.kind, (first_above p.lines p.kinds os s.1).1, say o.kind (kind_of_first os) k)
+      rw (s.0.kind, (first_above p.opened os s.1).1, say o.kind (kind_of_first os) k)
       (by_answer (may_hold e d o.kind (kind_of_first os) k)
       (λ t. rw t (record { deep = refl; stack = s; inside = i }))
       (λ t. rw t outwards))
@@ -137,8 +137,8 @@ module _ {e : Edition} {below : List (List ℕ)} {text : Text} {st : State} {pas
       let p = st.path in
       let q = place e before k in
       rw (le-ltb st.count 3 (omega (arith, h.count)))
-      (subst (λ d. Located p q (held_in below d p.kinds k p.depth)) (sym h.declares)
-      (subst (λ n. Located p q (held_in below (declarant before) p.kinds k n)) (sym h.path.depth)
+      (subst (λ d. Located p q (held_in below d p.opened k p.depth)) (sym h.declares)
+      (subst (λ n. Located p q (held_in below (declarant before) p.opened k n)) (sym h.path.depth)
       (locate e (declarant before) below (h.say_below later) p k none (opened before) h.path.stack (sym h.path.depth))))
 
   order_same : 3 ≤ length before → order_at st.path k (held_at below st k) ≡ in_order (place e before k).last k
@@ -165,7 +165,7 @@ module _ {e : Edition} {below : List (List ℕ)} {text : Text} {st : State} {pas
     found = placed e h.sound h.history k
 
     -- a record that may stand has as many open records outside it as the code finds; nothing holds an opening line
-    pub held_same : (held_at below st k ≡ length up) × Stack st.path.lines st.path.kinds up
+    pub held_same : (held_at below st k ≡ length up) × Stack st.path.opened up
     unfolding held_at opening
     held_same =
         below_or 3 (length before)
@@ -177,6 +177,6 @@ module _ {e : Edition} {below : List (List ℕ)} {text : Text} {st : State} {pas
     pub held_few : held_at below st k ≤ deepest
     held_few = omega (arith, held_same.0, open_depth found.known, level_most k)
 
-    pub parent_same : above st.path.lines (held_at below st k) ≡ p
+    pub parent_same : (above st.path.opened (held_at below st k)).line ≡ p
     unfolding parent_of
-    parent_same = rw held_same.0 (first_above _ _ up held_same.1).0
+    parent_same = rw held_same.0 (first_above _ up held_same.1).0

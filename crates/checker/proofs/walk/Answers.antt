@@ -15,7 +15,7 @@ use Rattle.checker.proofs.walk.Goals as goal
 
 pub loop-r-init : goal.loop-r-init
 loop-r-init c =
-    let held = held_start _ c.requires.sound (amounts_named (edition_says c.args.e)) c.clear.ensures c.start-st.ensures
+    let held = held_start _ c.requires.sound (amounts_named (edition_says c.args.tables.edition)) c.clear.ensures c.start-st.ensures
     c.nothing-past.ensures in
     record { held = held; few = (near held.reading).few }
 

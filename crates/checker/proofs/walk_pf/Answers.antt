@@ -8,9 +8,9 @@ use Rattle.checker.proofs.walk_pf.Goals as goal
 
 pub walk-requires : goal.walk-requires
 walk-requires c =
-    let all : let a = c.args in SayAll (edition_said a.e) c.row_table-rows.result c.pf_table-below.result a.file.now = let n =
+    let all : let a = c.args in SayAll (edition_said a.e) c.row_table.result c.pf_table.result a.file.now = let n =
     edition_says c.args.e in
-    say_all n _ c.row_table-rows.ensures (c.pf_table-below.ensures ∙ ap (below_table _) (sym c.requires)) in
+    say_all n _ c.row_table.ensures (c.pf_table.ensures ∙ ap (below_table _) (sym c.requires)) in
     all
 
 pub returns : goal.returns

@@ -8,9 +8,9 @@ use Rattle.checker.proofs.walk_pj.Goals as goal
 
 pub walk-requires : goal.walk-requires
 walk-requires c =
-    let all : let a = c.args in SayAll (edition_said a.e) c.row_table-rows.result c.pj_table-below.result a.file.now = let n =
+    let all : let a = c.args in SayAll (edition_said a.e) c.row_table.result c.pj_table.result a.file.now = let n =
     edition_says c.args.e in
-    say_all n _ c.row_table-rows.ensures (c.pj_table-below.ensures ∙ sym (other_table n _ c.requires)) in
+    say_all n _ c.row_table.ensures (c.pj_table.ensures ∙ sym (other_table n _ c.requires)) in
     all
 
 pub returns : goal.returns

@@ -9,6 +9,9 @@ pub returns-then-j-eq0 : goal.returns-then-j-eq0
 unfolding above
 returns-then-j-eq0 c = simp c.if-j-eq0.true
 
-pub returns : goal.returns
+pub returns-else-j-eq0 : goal.returns-else-j-eq0
 unfolding above
-returns c = let a = c.args in let e : suc (a.j - 1) ≡ a.j = omega (arith, c.if-j-eq0.false) in ap (above _) e
+returns-else-j-eq0 c =
+    let a = c.args in
+    let e : suc (a.j - 1) ≡ a.j = omega (arith, c.if-j-eq0.false) in
+    ap (above _) e

@@ -6,7 +6,4 @@ use Rattle.checker.specs.State.{held_in}
 use Rattle.checker.proofs.state.held_in.Given as goal
 
 abbrev pub invariant-loop-i : goal.invariant-loop-i
-invariant-loop-i l = (l.i ≤ deepest) × (held_in l.below l.declarant l.kinds l.k l.initial.i ≡ held_in l.below l.declarant l.kinds l.k l.i)
-
-abbrev pub decreases-loop-i : goal.decreases-loop-i
-decreases-loop-i l = l.i
+invariant-loop-i l = (l.i ≤ deepest) × (held_in l.below l.declarant l.opened l.k l.initial.i ≡ held_in l.below l.declarant l.opened l.k l.i)

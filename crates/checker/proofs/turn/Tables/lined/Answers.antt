@@ -7,7 +7,7 @@ use Rattle.fields.specs.declared.Scanned.{Scanned}
 use Rattle.refusals.specs.Numbers.{whole}
 use Rattle.refusals.proofs.Numbers.{not_0}
 use Rattle.checker.specs.Turn.{line_step}
-use Rattle.checker.proofs.turn.lined.Goals as goal
+use Rattle.checker.proofs.turn.Tables.lined.Goals as goal
 
 pub number_at-requires : goal.number_at-requires
 unfolding scan_of

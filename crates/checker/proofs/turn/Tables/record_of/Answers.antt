@@ -5,7 +5,7 @@ use Rattle.kinds.specs.Kinds.{kinds}
 use Rattle.layout.proofs.Laws.{kind_small}
 use Rattle.layout.proofs.Editions.{laid_out_lem}
 use Rattle.checker.specs.Turn.{record_of}
-use Rattle.checker.proofs.turn.record_of.Goals as goal
+use Rattle.checker.proofs.turn.Tables.record_of.Goals as goal
 
 pub held_at-requires : goal.held_at-requires
 unfolding record_of
