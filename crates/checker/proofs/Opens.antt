@@ -4,6 +4,7 @@ use Rattle.dirf.specs.Kinds.{kinds_opens}
 use Rattle.dirf.specs.Rules.{given, or_else}
 use Rattle.dirf.specs.Tree.{opening, may_follow}
 use Rattle.dirf.specs.Keys.{has_key}
+use Rattle.fields.specs.Places.{cell_at}
 use Rattle.checker.specs.State.{order_at, stands_on, place_found, stood_on, last_line, key_on}
 use Rattle.checker.specs.Turn.{filled_found}
 
@@ -24,5 +25,5 @@ unfolding key_on stood_on last_line has_key
 key_opens = tt
 
 unfoldable pub fill_opens : Unit {0}
-unfolding filled_found given or_else
+unfolding filled_found cell_at given or_else
 fill_opens = tt

@@ -3,11 +3,11 @@ use Rattle.std.specs.Prelude.{ℕ, ◌+◌, ◌≤◌, ◌<◌, not, Result, Ok,
 use Rattle.dirf.specs.Bytes.{Text, ends_with}
 use Rattle.dirf.specs.Limits.{bar, line_limit, lines_limit}
 use Rattle.dirf.specs.Edition.{Edition, kind_of}
-use Rattle.dirf.specs.Lines.{clean, field}
+use Rattle.dirf.specs.Lines.{clean}
 use Rattle.dirf.specs.FieldReader.{field_of}
 use Rattle.dirf.specs.Rules.{Found, keeps, breaks, given, or_else}
 use Rattle.dirf.specs.Theorems.Belongs.{deepest}
-use Rattle.fields.specs.Places.{part_of, no_place, places_of, cells_at}
+use Rattle.fields.specs.Places.{part_of, no_place, places_of, cell_at, cells_at}
 use Rattle.fields.specs.declared.Places.{Places}
 use Rattle.kinds.specs.Kinds.{kinds}
 use Rattle.layout.specs.Tables.{count_in, rows_in}
@@ -66,7 +66,7 @@ entry_of st r = record { kind = r.kind; start = st.at; len = r.len; parent = (ab
 -- 11, then 13 to 19 and 26; the kind was found by field 1, so that is its identifier
 unfoldable pub filled_found : List ℕ → Text → Places → ℕ → Found
 filled_found rows line p k =
-    or_else (given 11 0 (not (eqb p.count (count_in rows k)))) (contents_found k (field 1 (cells_at line p)) (rows_in rows k) (cells_at line p))
+    or_else (given 11 0 (not (eqb p.count (count_in rows k)))) (contents_found k (cell_at line p 0) (rows_in rows k) (cells_at line p))
 
 -- 9, 10 and 12, then those
 unfoldable pub read_step : List ℕ → Text → State → Places → Record → Stepped

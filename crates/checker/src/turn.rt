@@ -96,7 +96,8 @@ impl<'a> Tables<'a> {
         if cells.places.count != layout::field_count(self.rows, k) {
             return Err(Breach::from(Refusal::WrongFieldCount));
         }
-        rules::contents_found(cells, cells.field(1), self.rows, k)
+        let name = cells.places.first[0];
+        rules::contents_found(cells, fields::part(cells.bytes, name.start, name.len), self.rows, k)
     }
 
     // The line as a record: its kind by its identifier, and its place by its kind.

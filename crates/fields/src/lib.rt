@@ -105,6 +105,7 @@ pub fn same(a: &[u8], b: &[u8]) -> bool
 }
 
 // Byte by byte, a proper beginning first.
+#[tactic(auto, using(crate::proofs::Compare::less_lem))]
 pub fn less(a: &[u8], b: &[u8]) -> bool
     ensures { result ≡ less_text a.now b.now }
 {

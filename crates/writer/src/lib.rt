@@ -212,6 +212,7 @@ pub fn write_line(
         contents,
         lengths,
     };
-    asked.refusal(out.len())?;
+    let found = asked.refusal(out.len());
+    found?;
     Ok(put_line(contents, lengths, out))
 }

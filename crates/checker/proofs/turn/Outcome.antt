@@ -211,13 +211,13 @@ module _ {e : Edition} {below : List (List ℕ)} {file : Text} {st : State} {pas
     unfolding filled_found or_else given
     fill_is named =
         ap (λ n. or_else (given 11 0 (not (eqb n (count_in rows kd))))
-        (contents_found kd (field 1 (cells_at ln (places_of ln))) (rows_in rows kd) (cells_at ln (places_of ln)))) (places_count ln)
+        (contents_found kd (cell_at ln (places_of ln) 0) (rows_in rows kd) (cells_at ln (places_of ln)))) (places_count ln)
         ∙ rw (count_is all.say kd, all.say.fields kd, own named)
         (by_answer (eqb (length (fields ln)) (length (rows_of e kd)))
         (λ t.
         let n = eqb-true (length (fields ln)) (length (rows_of e kd)) t in
         let fits : length (fields ln) ≤ most_fields = omega (arith, few_rows all.say kd, n) in
-        rw (places_cells ln fits))
+        rw (places_cells ln fits, cell_is ln 0 fits))
         (λ t. rw t))
 
     -- a whole line
