@@ -1,4 +1,4 @@
--- The field that the conditions of a kind name, by what their tests answer: of a kind that has none, and of DECPF.
+-- The field that the conditions of DECPF name, by what their tests answer.
 use Rattle.std.specs.Prelude.{Option, Some, None, if◌then◌else◌}
 use Prim.Native.Nat.{ℕ}
 use mathlib.Core.Path.{◌≡◌, refl}
@@ -9,9 +9,9 @@ use lib.Dec.{eqb}
 use lib.ListN.{length}
 use borrow.Author.Tests.{ne_eqb}
 use Rattle.dirf.specs.Bytes.{Text, some, is_in, is_empty}
-use Rattle.dirf.specs.Kinds.{DECPF, PROC, RRA}
+use Rattle.dirf.specs.Kinds.{DECPF}
 use Rattle.dirf.specs.Lines.{field}
-use Rattle.dirf.specs.Conditions.{special, condition_order, conditions_opens}
+use Rattle.dirf.specs.Conditions.{special, conditions_opens}
 use Rattle.dirf.specs.Rules.{Found, keeps, given, or_else, ask_conditions}
 use Rattle.conditions.specs.Broken.{field_of, broken_field, death_unstated}
 
@@ -20,12 +20,6 @@ pub no_byte : (s : Text) → eqb (length s) 0 ≡ is_empty s
 unfolding is_empty
 no_byte [] = refl
 no_byte (b ∷ s) = ne_eqb (length (b ∷ s)) 0 (λ e. omega arith)
-
--- a kind that has no condition
-pub no_conditions : (k : ℕ) (cells : List Text) → is_in k (PROC ∷ RRA ∷ []) ≡ false → is_in k (DECPF ∷ [])
-    ≡ false → broken_field k cells ≡ None
-unfolding ask_conditions condition_order given or_else field_of broken_field
-no_conditions k cells h i = rw (h, i)
 
 -- the field by what the tests of DECPF answer
 unfoldable pub conditioned : Bool → Bool → Bool → Bool → Bool → Option ℕ

@@ -3,10 +3,9 @@ use Rattle.std.specs.Prelude.{Option, Some, None, if◌then◌else◌}
 use Prim.Native.Nat.{ℕ}
 use mathlib.Core.Path.{◌≡◌, refl, sym, ◌∙◌}
 use mathlib.Core.Bool.{Bool, true, false, ◌&&◌, or-false}
-use mathlib.Core.List.{List, [], ◌∷◌}
-use types.Run.{OneOf}
+use mathlib.Core.List.{List}
 use Rattle.dirf.specs.Bytes.{Text, some, is_in, same}
-use Rattle.dirf.specs.Kinds.{PROC, RRA}
+use Rattle.dirf.specs.Kinds.{PROC}
 use Rattle.dirf.specs.Lines.{field}
 use Rattle.dirf.specs.Conditions.{Lawyer, person, firm, nobody, lawyers, of_lawyer, lawyers_number_wrong, lawyers_name_too_long}
 use Rattle.dirf.specs.Conditions.{condition_order, lawyers_opens}
@@ -14,14 +13,8 @@ use Rattle.dirf.specs.Rules.{keeps, given, or_else, ask_conditions}
 use Rattle.dirf.specs.Theorems.Plain.{◌∈◌}
 use Rattle.dirf.proofs.tests.Says.{same_says}
 use Rattle.dirf.proofs.tests.Lists.{Each, none, ◌also◌, of_each}
-use Rattle.fields.proofs.Arms.{keys}
 use Rattle.conditions.specs.Broken.{field_of, broken_field, other_digits, lawyers_field}
 use Rattle.conditions.proofs.Fields.{no_byte}
-
--- PROC and RRA have the same conditions
-pub as_of_proc : (cells : List Text) {k : ℕ} → OneOf (PROC ∷ RRA ∷ []) k → broken_field PROC cells ≡ broken_field k cells
-unfolding is_in some ask_conditions condition_order broken_field
-as_of_proc cells = keys (λ k. broken_field k cells) (broken_field PROC cells) PROC (RRA ∷ []) refl
 
 two : (a b : Bool) → field_of (or_else (given 19 5 a) (or_else (given 19 6 b) keeps)) ≡ (if a then Some 5 else (if b then Some 6 else None))
 unfolding given or_else field_of
@@ -54,3 +47,8 @@ pub no_lawyers_kind : (cells : List Text) → same (field 4 cells) person.kind �
     → same (field 4 cells) nobody.kind ≡ false → broken_field PROC cells ≡ None
 unfolding lawyers_opens some
 no_lawyers_kind cells e f g = rw (lawyer_field cells, e, f, g)
+
+-- to compute with the kinds of which a condition is asked: PROC and RRA have the same ones
+unfoldable pub asked_opens : Unit {0}
+unfolding is_in some ask_conditions condition_order given or_else field_of broken_field
+asked_opens = tt

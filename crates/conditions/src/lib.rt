@@ -7,6 +7,7 @@ ghost use Rattle.fields.specs.Places.{cells_of};
 ghost use Rattle.conditions.specs.Broken.{broken_field, death_unstated, other_digits, lawyers_field};
 
 use fields::Cells;
+use records::{DECPF, PROC, RRA};
 
 // Of a declaration of special situation: field 10 is 1, and 11 is not S.
 #[tactic(auto, unfolding(crate::specs::Broken::death_unstated))]
@@ -80,12 +81,13 @@ fn lawyer_condition(cells: Cells) -> Option<u32>
 }
 
 // 19: the lowest field at which a condition of the kind is broken.
+#[tactic(auto, using(std::proofs::lemmas::Bool::Decides::nat_tests), unfolding(crate::proofs::Lawyers::asked_opens))]
 pub fn broken_field(cells: Cells, k: u32) -> Option<u32>
     ensures { result ≡ broken_field k (cells_of cells.entry) }
 {
     match k {
-        3 => decpf_condition(cells),
-        51 | 55 => lawyer_condition(cells),
+        DECPF => decpf_condition(cells),
+        PROC | RRA => lawyer_condition(cells),
         _ => None,
     }
 }

@@ -1,26 +1,19 @@
--- The arms of a `match` on a number: what an arm of single numbers is told, and what any other is told of them.
+-- The arms of a `match` on a number: what an arm is told of the others.
 use Prim.Native.Nat.{ℕ}
 use mathlib.Core.Path.{◌≡◌, refl}
 use mathlib.Core.Bool.{false}
 use mathlib.Core.Logic.{inl, inr}
-use mathlib.Core.List.{List, [], ◌∷◌, map, tail-eq_of_cons-eq}
+use mathlib.Core.List.{List, [], ◌∷◌}
 use types.Run.{OneOf}
 use borrow.Author.Tests.{ne_eqb}
 use Rattle.dirf.specs.Bytes.{some, is_in}
 
--- an arm of single numbers is told that the number is one of them
-pub keys : {A : Type 0} (f : ℕ → A) (v : A) (k : ℕ) (ks : List ℕ) → map f (k ∷ ks) ≡ map (λ x. v) (k ∷ ks)
-    → {x : ℕ} → OneOf (k ∷ ks) x → v ≡ f x
-keys f v k [] all e = cc
-keys f v k (k' ∷ ks) all (inl e) = cc
-keys f v k (k' ∷ ks) all (inr o) = keys f v k' ks (tail-eq_of_cons-eq all) o
-
--- any other arm is told that it is none of them, in this shape: the last arm of single numbers first
+-- an arm is told that the number is in none of the others, in this shape: the last arm of single numbers first
 abbrev pub NoneOf : List (List ℕ) → ℕ → Type 0
 NoneOf [] x = Unit {0}
 NoneOf (ks ∷ kss) x = NoneOf kss x × (OneOf ks x → ⊥)
 
-pub not_in : (ks : List ℕ) (x : ℕ) → (OneOf ks x → ⊥) → is_in x ks ≡ false
+not_in : (ks : List ℕ) (x : ℕ) → (OneOf ks x → ⊥) → is_in x ks ≡ false
 unfolding is_in some
 not_in [] x n = refl
 not_in (k ∷ []) x n = rw (ne_eqb x k n)

@@ -1,3 +1,4 @@
+pub mod Opens
 pub mod Compare
 pub mod Bars
 pub mod Spots

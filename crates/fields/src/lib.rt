@@ -11,6 +11,8 @@ ghost use Rattle.dirf.specs.FieldReader.{field_there, field_of, field_start};
 ghost use Rattle.dirf.specs.Keys.{key_fields, fewer_digits_first, key_of, key_less};
 ghost use Rattle.fields.specs.Places.{part_of, cells_of, no_places, add_place, place_of, scan_of, places_along, key_parts};
 
+use records::*;
+
 // No record has more fields than this.
 pub const MOST_FIELDS: usize = 15;
 
@@ -129,12 +131,13 @@ fn number_less(a: &[u8], b: &[u8]) -> bool
 }
 
 // Whether a key of field 2 alone comes before another: that of RTPSE and RDTPSE is a CPF or a CNPJ.
+#[tactic(auto, using(std::proofs::lemmas::Bool::Decides::nat_tests), unfolding(crate::proofs::Opens::listed_opens))]
 fn one_less(k: u32, a: &[u8], b: &[u8]) -> bool
     ensures { result ≡ (if is_in k reimbursements then key_less (fewer_digits_first a.now) (fewer_digits_first b.now)
         else less_text a.now b.now) }
 {
     match k {
-        66 | 68 => number_less(a, b),
+        RTPSE | RDTPSE => number_less(a, b),
         _ => less(a, b),
     }
 }
@@ -151,18 +154,17 @@ pub fn key_less(k: u32, earlier: &[u8], second: &[u8], third: &[u8]) -> bool
 }
 
 // How many fields the key of a kind has: field 2, or fields 2 and 3.
+#[tactic(auto, using(std::proofs::lemmas::Bool::Decides::nat_tests), unfolding(crate::proofs::Opens::count_opens))]
 pub fn key_count(k: u32) -> usize
     ensures { result ≡ length (key_fields k) }
 {
     match k {
-        // PROC, RRA, INFPA, DTPSE
-        51 | 55 | 29 | 67 => 2,
-        // IDREC; RTPSE, RDTPSE
-        5 | 66 | 68 => 1,
-        // a CPF: BPFDEC, BPFFCI, BPFPROC, BPFRRA, BPFSCP, TPSE
-        6 | 49 | 52 | 56 | 60 | 65 => 1,
-        // a CNPJ: INFPC, BPJDEC, FCI, BPJFCI, BPJPROC, SCP, BPJSCP, OPSE
-        20 | 44 | 48 | 50 | 54 | 59 | 62 | 64 => 1,
+        PROC | RRA | INFPA | DTPSE => 2,
+        IDREC | RTPSE | RDTPSE => 1,
+        // a CPF
+        BPFDEC | BPFFCI | BPFPROC | BPFRRA | BPFSCP | TPSE => 1,
+        // a CNPJ
+        INFPC | BPJDEC | FCI | BPJFCI | BPJPROC | SCP | BPJSCP | OPSE => 1,
         _ => 0,
     }
 }

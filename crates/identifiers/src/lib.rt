@@ -9,6 +9,7 @@ ghost use Rattle.editions.specs.Editions.{edition_said};
 ghost use Rattle.identifiers.specs.Left.{Begins, Left};
 
 use editions::Edition;
+use records::*;
 
 // Its kind, if this is the one identifier that is left; else 0. Not `==`, whose code is one for all lengths and took 14 instructions more.
 fn only(s: &[u8], name: &[u8], k: u32) -> u32
@@ -23,8 +24,8 @@ fn three_r(s: &[u8]) -> u32
     ensures { result ≡ kind_in names2025 s.now }
 {
     match s[2] {
-        b'O' => only(s, b"RIO", 43),
-        _ => only(s, b"RRA", 55),
+        b'O' => only(s, b"RIO", RIO),
+        _ => only(s, b"RRA", RRA),
     }
 }
 
@@ -34,11 +35,11 @@ fn of_three(s: &[u8]) -> u32
     ensures { result ≡ kind_in names2025 s.now }
 {
     match s[0] {
-        b'F' => only(s, b"FCI", 48),
-        b'I' => only(s, b"INF", 72),
-        b'P' => only(s, b"PSE", 63),
+        b'F' => only(s, b"FCI", FCI),
+        b'I' => only(s, b"INF", INF),
+        b'P' => only(s, b"PSE", PSE),
         b'R' => three_r(s),
-        b'S' => only(s, b"SCP", 59),
+        b'S' => only(s, b"SCP", SCP),
         _ => 0,
     }
 }
@@ -48,8 +49,8 @@ fn four_c(s: &[u8]) -> u32
     ensures { result ≡ kind_in names2025 s.now }
 {
     match s[3] {
-        b'C' => only(s, b"CJAC", 12),
-        _ => only(s, b"CJAA", 13),
+        b'C' => only(s, b"CJAC", CJAC),
+        _ => only(s, b"CJAA", CJAA),
     }
 }
 
@@ -59,20 +60,20 @@ fn four_e(s: &[u8]) -> u32
 {
     match s[2] {
         b'D' => match s[3] {
-            b'J' => only(s, b"ESDJ", 19),
-            b'P' => only(s, b"ESDP", 16),
-            _ => only(s, b"ESDS", 17),
+            b'J' => only(s, b"ESDJ", ESDJ),
+            b'P' => only(s, b"ESDP", ESDP),
+            _ => only(s, b"ESDS", ESDS),
         },
-        b'E' => only(s, b"ESEP", 28),
-        b'F' => only(s, b"ESFA", 26),
-        b'I' => only(s, b"ESIR", 18),
+        b'E' => only(s, b"ESEP", ESEP),
+        b'F' => only(s, b"ESFA", ESFA),
+        b'I' => only(s, b"ESIR", ESIR),
         b'P' => match s[3] {
-            b'A' => only(s, b"ESPA", 31),
-            b'O' => only(s, b"ESPO", 15),
-            _ => only(s, b"ESPP", 25),
+            b'A' => only(s, b"ESPA", ESPA),
+            b'O' => only(s, b"ESPO", ESPO),
+            _ => only(s, b"ESPP", ESPP),
         },
-        b'R' => only(s, b"ESRT", 14),
-        _ => only(s, b"ESSP", 27),
+        b'R' => only(s, b"ESRT", ESRT),
+        _ => only(s, b"ESSP", ESSP),
     }
 }
 
@@ -81,21 +82,21 @@ fn four_r(s: &[u8]) -> u32
     ensures { result ≡ kind_in names2025 s.now }
 {
     match s[2] {
-        b'A' => only(s, b"RIAP", 34),
+        b'A' => only(s, b"RIAP", RIAP),
         b'D' => match s[3] {
-            b'E' => only(s, b"RPDE", 69),
-            b'P' => only(s, b"RTDP", 9),
-            _ => only(s, b"RTDS", 10),
+            b'E' => only(s, b"RPDE", RPDE),
+            b'P' => only(s, b"RTDP", RTDP),
+            _ => only(s, b"RTDS", RTDS),
         },
-        b'E' => only(s, b"RTEP", 24),
-        b'F' => only(s, b"RTFA", 22),
+        b'E' => only(s, b"RTEP", RTEP),
+        b'F' => only(s, b"RTFA", RTFA),
         b'P' => match s[3] {
-            b'A' => only(s, b"RTPA", 30),
-            b'O' => only(s, b"RTPO", 8),
-            _ => only(s, b"RTPP", 21),
+            b'A' => only(s, b"RTPA", RTPA),
+            b'O' => only(s, b"RTPO", RTPO),
+            _ => only(s, b"RTPP", RTPP),
         },
-        b'R' => only(s, b"RTRT", 7),
-        _ => only(s, b"RTSP", 23),
+        b'R' => only(s, b"RTRT", RTRT),
+        _ => only(s, b"RTSP", RTSP),
     }
 }
 
@@ -106,12 +107,12 @@ fn of_four(s: &[u8]) -> u32
 {
     match s[0] {
         b'C' => four_c(s),
-        b'D' => only(s, b"Dirf", 1),
+        b'D' => only(s, b"Dirf", DIRF),
         b'E' => four_e(s),
-        b'O' => only(s, b"OPSE", 64),
-        b'P' => only(s, b"PROC", 51),
+        b'O' => only(s, b"OPSE", OPSE),
+        b'P' => only(s, b"PROC", PROC),
         b'R' => four_r(s),
-        b'T' => only(s, b"TPSE", 65),
+        b'T' => only(s, b"TPSE", TPSE),
         _ => 0,
     }
 }
@@ -121,10 +122,10 @@ fn five_d(s: &[u8]) -> u32
     ensures { result ≡ kind_in names2025 s.now }
 {
     match s[4] {
-        b'D' => only(s, b"DAJUD", 57),
-        b'E' => only(s, b"DTPSE", 67),
-        b'F' => only(s, b"DECPF", 3),
-        _ => only(s, b"DECPJ", 4),
+        b'D' => only(s, b"DAJUD", DAJUD),
+        b'E' => only(s, b"DTPSE", DTPSE),
+        b'F' => only(s, b"DECPF", DECPF),
+        _ => only(s, b"DECPJ", DECPJ),
     }
 }
 
@@ -133,10 +134,10 @@ fn five_i(s: &[u8]) -> u32
     ensures { result ≡ kind_in names2025 s.now }
 {
     match s[2] {
-        b'R' => only(s, b"IDREC", 5),
+        b'R' => only(s, b"IDREC", IDREC),
         _ => match s[4] {
-            b'A' => only(s, b"INFPA", 29),
-            _ => only(s, b"INFPC", 20),
+            b'A' => only(s, b"INFPA", INFPA),
+            _ => only(s, b"INFPC", INFPC),
         },
     }
 }
@@ -147,23 +148,23 @@ fn five_r_to_q(s: &[u8]) -> u32
     ensures { result ≡ kind_in names2025 s.now }
 {
     match s[2] {
-        b'B' => only(s, b"RIBMR", 37),
-        b'C' => only(s, b"RICAP", 38),
-        b'D' => only(s, b"RIDAC", 32),
+        b'B' => only(s, b"RIBMR", RIBMR),
+        b'C' => only(s, b"RICAP", RICAP),
+        b'D' => only(s, b"RIDAC", RIDAC),
         b'I' => match s[4] {
-            b'F' => only(s, b"RTIRF", 11),
-            _ => only(s, b"RIIRP", 33),
+            b'F' => only(s, b"RTIRF", RTIRF),
+            _ => only(s, b"RIIRP", RIIRP),
         },
         b'M' => match s[4] {
-            b'G' => only(s, b"RIMOG", 35),
-            _ => only(s, b"RIMUN", 46),
+            b'G' => only(s, b"RIMOG", RIMOG),
+            _ => only(s, b"RIMUN", RIMUN),
         },
         b'P' => match s[4] {
-            b'5' => only(s, b"RIP65", 36),
-            b'E' => only(s, b"RTPSE", 66),
-            _ => only(s, b"RIPTS", 41),
+            b'5' => only(s, b"RIP65", RIP65),
+            b'E' => only(s, b"RTPSE", RTPSE),
+            _ => only(s, b"RIPTS", RIPTS),
         },
-        _ => only(s, b"RIL96", 40),
+        _ => only(s, b"RIL96", RIL96),
     }
 }
 
@@ -174,13 +175,13 @@ fn five_r(s: &[u8]) -> u32
     match s[2] {
         0..=b'Q' => five_r_to_q(s),
         b'S' => match s[4] {
-            b'N' => only(s, b"RISEN", 47),
-            b'O' => only(s, b"RESPO", 2),
-            _ => only(s, b"RISCP", 61),
+            b'N' => only(s, b"RISEN", RISEN),
+            b'O' => only(s, b"RESPO", RESPO),
+            _ => only(s, b"RISCP", RISCP),
         },
         _ => match s[4] {
-            b'C' => only(s, b"RIRPC", 39),
-            _ => only(s, b"RIRSR", 53),
+            b'C' => only(s, b"RIRPC", RIRPC),
+            _ => only(s, b"RIRSR", RIRSR),
         },
     }
 }
@@ -190,8 +191,8 @@ fn five_v(s: &[u8]) -> u32
     ensures { result ≡ kind_in names2025 s.now }
 {
     match s[2] {
-        b'E' => only(s, b"VPEIM", 45),
-        _ => only(s, b"VRPDE", 71),
+        b'E' => only(s, b"VPEIM", VPEIM),
+        _ => only(s, b"VRPDE", VRPDE),
     }
 }
 
@@ -201,7 +202,7 @@ fn of_five(s: &[u8]) -> u32
     ensures { result ≡ kind_in names2025 s.now }
 {
     match s[0] {
-        b'B' => only(s, b"BRPDE", 70),
+        b'B' => only(s, b"BRPDE", BRPDE),
         b'D' => five_d(s),
         b'I' => five_i(s),
         b'R' => five_r(s),
@@ -216,15 +217,15 @@ fn six_b(s: &[u8]) -> u32
 {
     match s[2] {
         b'F' => match s[5] {
-            b'A' => only(s, b"BPFRRA", 56),
-            b'C' => only(s, b"BPFDEC", 6),
-            b'I' => only(s, b"BPFFCI", 49),
-            _ => only(s, b"BPFSCP", 60),
+            b'A' => only(s, b"BPFRRA", BPFRRA),
+            b'C' => only(s, b"BPFDEC", BPFDEC),
+            b'I' => only(s, b"BPFFCI", BPFFCI),
+            _ => only(s, b"BPFSCP", BPFSCP),
         },
         _ => match s[5] {
-            b'C' => only(s, b"BPJDEC", 44),
-            b'I' => only(s, b"BPJFCI", 50),
-            _ => only(s, b"BPJSCP", 62),
+            b'C' => only(s, b"BPJDEC", BPJDEC),
+            b'I' => only(s, b"BPJFCI", BPJFCI),
+            _ => only(s, b"BPJSCP", BPJSCP),
         },
     }
 }
@@ -234,8 +235,8 @@ fn six_r(s: &[u8]) -> u32
     ensures { result ≡ kind_in names2025 s.now }
 {
     match s[2] {
-        b'J' => only(s, b"RIJMRE", 42),
-        _ => only(s, b"RDTPSE", 68),
+        b'J' => only(s, b"RIJMRE", RIJMRE),
+        _ => only(s, b"RDTPSE", RDTPSE),
     }
 }
 
@@ -256,8 +257,8 @@ fn seven_b(s: &[u8]) -> u32
     ensures { result ≡ kind_in names2025 s.now }
 {
     match s[2] {
-        b'F' => only(s, b"BPFPROC", 52),
-        _ => only(s, b"BPJPROC", 54),
+        b'F' => only(s, b"BPFPROC", BPFPROC),
+        _ => only(s, b"BPJPROC", BPJPROC),
     }
 }
 
@@ -268,8 +269,8 @@ fn of_seven(s: &[u8]) -> u32
 {
     match s[0] {
         b'B' => seven_b(s),
-        b'F' => only(s, b"FIMDirf", 73),
-        b'Q' => only(s, b"QTMESES", 58),
+        b'F' => only(s, b"FIMDirf", FIMDIRF),
+        b'Q' => only(s, b"QTMESES", QTMESES),
         _ => 0,
     }
 }
@@ -295,8 +296,7 @@ pub fn kind_of(e: Edition, s: &[u8]) -> u32
     ensures { result ≡ kind_of (edition_said e) s.now }
 {
     match (e, known(s)) {
-        // RTDS, ESDS
-        (Edition::Of2022, 10 | 17) => 0,
+        (Edition::Of2022, RTDS | ESDS) => 0,
         (_, k) => k,
     }
 }

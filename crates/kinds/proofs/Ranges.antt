@@ -23,12 +23,12 @@ abbrev in_later : ℕ → Bool
 in_later k = leb 45 k && leb k 47 || leb 69 k && leb k 72
 
 abbrev in_once : ℕ → Bool
-in_once k = leb 7 k && leb k 19 || leb 21 k && leb k 28 || leb 30 k && leb k 43 || eqb k 53 || leb 57 k && leb k 58 || eqb k 61
+in_once k = leb 7 k && leb k 19 || leb 21 k && leb k 28 || leb 30 k && leb k 43 || eqb k 53 || (eqb k 57 || eqb k 58) || eqb k 61
 
 abbrev block_by : ℕ → ℕ → ℕ
 block_by d k =
     if eqb k 6 || eqb k 44 then d
-    else (if leb 49 k && leb k 50 then 48 else (if eqb k 52 || eqb k 54 then 51 else (if eqb k 56 then 55 else 0)))
+    else (if eqb k 49 || eqb k 50 then 48 else (if eqb k 52 || eqb k 54 then 51 else (if eqb k 56 then 55 else 0)))
 
 abbrev amounts : ℕ → ℕ
 amounts k =

@@ -7,6 +7,8 @@ ghost use Rattle.dirf.specs.Tree.{block_of, suits as suits_of};
 ghost use Rattle.dirf.specs.Tables.{first_amount, amount_count};
 ghost use Rattle.kinds.specs.Kinds.{month_count};
 
+use records::*;
+
 // The kinds are numbered from 1, and 0 is none.
 pub const KINDS: usize = 74;
 
@@ -16,8 +18,8 @@ pub fn suits(declarant: u32, holder: u32, outer: u32, kind: u32) -> bool
     ensures { result ≡ suits_of declarant holder outer kind }
 {
     match holder {
-        5 => block_of(declarant, kind) == outer,
-        29 => kind != 31 || outer == 6,
+        IDREC => block_of(declarant, kind) == outer,
+        INFPA => kind != ESPA || outer == BPFDEC,
         _ => true,
     }
 }
@@ -28,10 +30,10 @@ fn block_of(d: u32, k: u32) -> u32
     ensures { result ≡ block_of d k }
 {
     match k {
-        6 | 44 => d,
-        49..=50 => 48,
-        52 | 54 => 51,
-        56 => 55,
+        BPFDEC | BPJDEC => d,
+        BPFFCI | BPJFCI => FCI,
+        BPFPROC | BPJPROC => PROC,
+        BPFRRA => RRA,
         _ => 0,
     }
 }
@@ -40,7 +42,7 @@ fn block_of(d: u32, k: u32) -> u32
 pub fn is_later(k: u32) -> bool
     ensures { result ≡ is_later k }
 {
-    matches!(k, 45..=47 | 69..=72)
+    matches!(k, VPEIM..=RISEN | RPDE..=INF)
 }
 
 // Whether a kind stands at most once under its parent: a value record with no key.
@@ -48,7 +50,7 @@ pub fn is_later(k: u32) -> bool
 pub fn stands_once(k: u32) -> bool
     ensures { result ≡ stands_once k }
 {
-    matches!(k, 7..=19 | 21..=28 | 30..=43 | 53 | 57..=58 | 61)
+    matches!(k, RTRT..=ESDJ | RTPP..=ESEP | RTPA..=RIO | RIRSR | DAJUD | QTMESES | RISCP)
 }
 
 // Whether nothing ever stands below a record of this kind: RTPSE and RDTPSE have a key.
@@ -56,7 +58,7 @@ pub fn stands_once(k: u32) -> bool
 pub fn opens_nothing(k: u32) -> bool
     ensures { result ≡ opens_nothing k }
 {
-    stands_once(k) || matches!(k, 66 | 68)
+    stands_once(k) || matches!(k, RTPSE | RDTPSE)
 }
 
 // The amounts of a value record stand one after another. The field of the first: that of RTPSE and RDTPSE stands behind the provider.
@@ -64,7 +66,7 @@ pub fn opens_nothing(k: u32) -> bool
 pub fn first_amount(k: u32) -> usize
     ensures { result ≡ first_amount k }
 {
-    if matches!(k, 66 | 68) { 4 } else { 2 }
+    if matches!(k, RTPSE | RDTPSE) { 4 } else { 2 }
 }
 
 // How many there are, 0 where there is no total.
@@ -73,12 +75,10 @@ pub fn amount_count(k: u32) -> usize
     ensures { result ≡ amount_count k }
 {
     match k {
-        // RIL96, RIPTS, RIJMRE, RIO; RIRSR
-        40..=43 | 53 => 1,
-        // RTPSE, RDTPSE
-        66 | 68 => 2,
-        // QTMESES, whose months are no money
-        58 => 0,
+        RIL96..=RIO | RIRSR => 1,
+        RTPSE | RDTPSE => 2,
+        // its months are no money
+        QTMESES => 0,
         _ => month_count(k),
     }
 }

@@ -32,13 +32,13 @@ pub const NAME_BYTES: usize = KINDS * SLOT;
 pub const ROW_BYTES: usize = KINDS * RECORD;
 
 // The kinds that the older edition lacks, those below which they stand, and where a row of Dirf has what its field holds.
-const RTDS: usize = 10;
+const RTDS: usize = records::RTDS as usize;
 
-const ESDS: usize = 17;
+const ESDS: usize = records::ESDS as usize;
 
-const BPFDEC: usize = 6;
+const BPFDEC: usize = records::BPFDEC as usize;
 
-const BPFPROC: usize = 52;
+const BPFPROC: usize = records::BPFPROC as usize;
 
 const DIRF_YEAR: usize = RECORD + 2 * ROW;
 

@@ -2,6 +2,7 @@
 #![tactic(auto)]
 
 use editions::Edition;
+use records::{BPFSCP, DECPF, DIRF, FIMDIRF, RESPO, SCP};
 use std::io;
 
 // A line to be written: its kind, as docs/KINDS.md has it, the contents of its fields one after another, and their lengths.
@@ -31,32 +32,32 @@ impl Line<'_> {
 // The six lines in their order.
 const LINES: [Line; 6] = [
     Line {
-        kind: 1,
+        kind: DIRF,
         contents: b"Dirf20252024NR6GP3ZA",
         lengths: &[4, 4, 4, 1, 0, 7],
     },
     Line {
-        kind: 2,
+        kind: RESPO,
         contents: b"RESPO11144477735ANA LIMA1133334444",
         lengths: &[5, 11, 8, 2, 8, 0, 0, 0],
     },
     Line {
-        kind: 3,
+        kind: DECPF,
         contents: b"DECPF11144477735ANA LIMANNNSNN",
         lengths: &[5, 11, 8, 1, 1, 1, 1, 1, 0, 0, 1, 0, 0, 0, 0],
     },
     Line {
-        kind: 59,
+        kind: SCP,
         contents: b"SCP11222333000181SCP SERRA",
         lengths: &[3, 14, 9],
     },
     Line {
-        kind: 60,
+        kind: BPFSCP,
         contents: b"BPFSCP11144477735ANA LIMA",
         lengths: &[6, 11, 8, 0],
     },
     Line {
-        kind: 73,
+        kind: FIMDIRF,
         contents: b"FIMDirf",
         lengths: &[7],
     },

@@ -9,6 +9,7 @@ ghost use Rattle.dirf.specs.Search.{entries_in, kind_in, is_within, is_idrec, se
 ghost use Rattle.search.specs.Answers.{EntryIf, IsNoWay, said, entry_in, key_on};
 
 use checker::NUMBERS_AN_ENTRY;
+use records::{BPFDEC, BPFFCI, BPFPROC, BPFRRA, BPFSCP, BPJDEC, BPJFCI, BPJPROC, BPJSCP, IDREC};
 use refusals::Refusal;
 
 // The line of the person found, 0 for none, and how many entries of beneficiaries were looked at.
@@ -44,20 +45,19 @@ pub fn entries(table: &[u32], count: u32) -> &[u32]
     &table[..used.min(table.len())]
 }
 
-// BPJDEC, BPJFCI, BPJPROC, BPJSCP
 #[tactic(auto, using(crate::proofs::EntryRead::by_number), unfolding(dirf::specs::Bytes::bytes_opens, dirf::specs::Kinds::kinds_opens))]
 fn is_company(k: u32) -> bool
     ensures { result ≡ is_in k companies }
 {
-    matches!(k, 44 | 50 | 54 | 62)
+    matches!(k, BPJDEC | BPJFCI | BPJPROC | BPJSCP)
 }
 
-// A company, or a person: BPFDEC, BPFFCI, BPFPROC, BPFRRA, BPFSCP
+// A company, or a person.
 #[tactic(auto, using(crate::proofs::EntryRead::by_number), unfolding(dirf::specs::Bytes::bytes_opens, dirf::specs::Kinds::kinds_opens))]
 fn is_beneficiary(k: u32) -> bool
     ensures { result ≡ is_beneficiary k }
 {
-    is_company(k) || matches!(k, 6 | 49 | 52 | 56 | 60)
+    is_company(k) || matches!(k, BPFDEC | BPFFCI | BPFPROC | BPFRRA | BPFSCP)
 }
 
 impl<'a> Lines<'a> {
@@ -97,7 +97,7 @@ impl<'a> Lines<'a> {
             return Err(Refusal::NoWay);
         }
         let e = self.entry(n);
-        if e.kind == 5 && self.is_within(n, e) {
+        if e.kind == IDREC && self.is_within(n, e) {
             Ok(e)
         } else {
             Err(Refusal::NoWay)
