@@ -5,7 +5,7 @@ use Rattle.dirf.specs.Rules.{given, or_else}
 use Rattle.dirf.specs.Tree.{opening, may_follow}
 use Rattle.dirf.specs.Keys.{has_key}
 use Rattle.fields.specs.Places.{cell_at}
-use Rattle.checker.specs.State.{order_at, stands_on, place_found, stood_on, last_line, key_on}
+use Rattle.checker.specs.State.{order_at, stands_on, place_found, repeated_on, stood_on, last_line, key_on}
 use Rattle.checker.specs.Turn.{filled_found}
 
 unfoldable pub order_opens : Unit {0}
@@ -19,6 +19,10 @@ stands_opens = tt
 unfoldable pub place_opens : Unit {0}
 unfolding place_found given or_else
 place_opens = tt
+
+unfoldable pub repeated_opens : Unit {0}
+unfolding repeated_on stood_on
+repeated_opens = tt
 
 unfoldable pub key_opens : Unit {0}
 unfolding key_on stood_on last_line has_key

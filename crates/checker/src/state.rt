@@ -9,6 +9,7 @@ ghost use Rattle.checker.specs.State.{start_past, repeated_on, key_on, look_foun
 
 use kinds::KINDS;
 use layout::{COLUMNS, HOLDERS};
+use records::*;
 use refusals::{Breach, Refusal};
 
 // How deep records stand open: the declarant, a block, an IDREC, a beneficiary, an INFPC or INFPA.
@@ -111,8 +112,7 @@ pub(crate) fn held_at(below: &[[u8; COLUMNS]; HOLDERS], st: State, k: u32) -> us
     if st.count < OPENING_LINES {
         return 0;
     }
-    let path = st.path;
-    held_in(below, st.declarant, path, k)
+    held_in(below, st.declarant, st.path, k)
 }
 
 // Not before the record that opened last there: after an INFPC or INFPA any, after a PSE none.
@@ -126,8 +126,8 @@ fn order_at(path: Path, k: u32, d: usize) -> bool
     }
     let last = path.opened[d].kind;
     match last {
-        20 | 29 => true,
-        63 => false,
+        INFPC | INFPA => true,
+        PSE => false,
         _ => last <= k,
     }
 }
@@ -138,7 +138,7 @@ fn stands_below(path: Path, k: u32, d: usize) -> bool
     requires { path.depth ≤ deepest }
     ensures { result ≡ below_on path k d }
 {
-    k == 73 || 0 < d && order_at(path, k, d)
+    k == FIMDIRF || 0 < d && order_at(path, k, d)
 }
 
 // May a record of kind k stand here?
@@ -148,9 +148,9 @@ fn stands(st: State, k: u32, d: usize) -> bool
     ensures { result ≡ stands_on st k d }
 {
     match st.count {
-        0 => k == 1,
-        1 => k == 2,
-        2 => k == 3 || k == 4,
+        0 => k == DIRF,
+        1 => k == RESPO,
+        2 => k == DECPF || k == DECPJ,
         _ => stands_below(st.path, k, d),
     }
 }
@@ -174,7 +174,7 @@ pub(crate) fn place_found(st: State, k: u32, d: usize) -> Result<(), Breach>
 }
 
 // 21, of a record below line p.
-#[tactic(auto, using(std::proofs::lemmas::Bool::Decides::nat_tests), unfolding(crate::specs::State::repeated_on, crate::specs::State::stood_on))]
+#[tactic(auto, using(std::proofs::lemmas::Bool::Decides::nat_tests), unfolding(crate::proofs::Opens::repeated_opens))]
 fn repeated(last: Last, k: u32, p: u32) -> bool
     ensures { result ≡ repeated_on last k p }
 {

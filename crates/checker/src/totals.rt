@@ -21,7 +21,7 @@ fn digit(b: u8) -> u64
     requires { 48 ≤ b }
     ensures { result ≡ b - 48 }
 {
-    b as u64 - 48
+    u64::from(b - b'0')
 }
 
 // The sum of the first n amounts of a text, each ended by its bar. They have kept the rules: each is digits, and the sum fits.

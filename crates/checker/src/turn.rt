@@ -60,8 +60,7 @@ pub(crate) fn looked(file: &[u8], st: State, r: Record, last: Last) -> Result<()
     let line = fields::part(file, st.at, r.len);
     let second = fields::part(line, r.second.start, r.second.len);
     let third = fields::part(line, r.third.start, r.third.len);
-    let path = st.path;
-    let parent = state::above(path.opened, r.outer).line;
+    let parent = state::above(st.path.opened, r.outer).line;
     state::look_found(file, last, r.kind, parent, second, third)
 }
 
@@ -70,12 +69,11 @@ pub(crate) fn entry_of(st: State, r: Record) -> Entry
     requires { Fits st r }
     ensures { result ≡ entry_of st r }
 {
-    let path = st.path;
     Entry {
         kind: r.kind,
         start: st.at as u32,
         len: r.len as u32,
-        parent: state::above(path.opened, r.outer).line,
+        parent: state::above(st.path.opened, r.outer).line,
     }
 }
 
@@ -103,7 +101,8 @@ impl<'a> Tables<'a> {
     // The line as a record: its kind by its identifier, and its place by its kind.
     fn record_of(self, cells: Cells, st: State) -> Record
         requires { st.path.depth ≤ deepest }
-        ensures { (result ≡ record_of (edition_said self.entry.edition) self.entry.below.now cells.entry.bytes.now st cells.entry.places.now)
+        ensures { (result
+            ≡ record_of (edition_said self.entry.edition) self.entry.below.now cells.entry.bytes.now st cells.entry.places.now)
             × ((result.kind < kinds) × (result.outer ≤ deepest)) }
     {
         let line = cells.bytes;
@@ -156,7 +155,7 @@ impl<'a> Tables<'a> {
         self.recorded(cells, st)
     }
 
-    // The end, 1, 2 and 3.
+    // The end, 1, 2 and 3. A record to go on with, or the answer that ends the check: acceptance is one too, so Err here is no refusal.
     #[tactic(auto, using(std::proofs::lemmas::Bool::Decides::nat_tests), unfolding(crate::specs::Turn::turn_of))]
     pub(crate) fn turn(self, file: &[u8], st: State) -> Result<Record, Answer>
         requires { Near st }

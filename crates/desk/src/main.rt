@@ -5,6 +5,7 @@ ghost use Rattle.std.specs.Prelude.{◌≡◌};
 ghost use Rattle.desk.specs.Desk.{desk_answer};
 
 use checker::Answer;
+use refusals::Refusal;
 use std::io;
 
 // Document 01: "Over 65,536 bytes it prints `25 0 0 0`. Its table has 3,000 entries."
@@ -18,7 +19,7 @@ fn desk_answer(file: &[u8]) -> Answer
 {
     if BYTES < file.len() {
         return Answer {
-            number: 25,
+            number: Refusal::LongFile.number(),
             line: 0,
             field: 0,
             entries: 0,

@@ -74,7 +74,7 @@ fn size_held(holds: u8, n: usize) -> bool
     }
 }
 
-#[tactic(auto, using(std::proofs::lemmas::Bool::Decides::nat_tests), unfolding(dirf::specs::Fields::fills_to, layout::specs::Tables::fill_of))]
+#[tactic(auto, using(std::proofs::lemmas::Bool::Decides::nat_tests), unfolding(crate::proofs::Opens::size_opens))]
 fn right_size(row: Row, n: usize) -> bool
     ensures { result ≡ (fills_to (fill_of row.fill) row.size n && size_held (holds_of row.holds) n) }
 {
