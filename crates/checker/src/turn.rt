@@ -99,7 +99,7 @@ fn record_of(e: Edition, below: &[[u8; COLUMNS]; HOLDERS], cells: Cells, st: Sta
         × ((result.kind < kinds) × (result.outer ≤ deepest)) }
 {
     let line = cells.bytes;
-    let k = identifiers::kind_of(e, fields::field(line, 1));
+    let k = identifiers::kind_of(e, fields::field(line, 1)).unwrap_or(0);
     Record {
         kind: k,
         outer: state::held_at(below, st, k),
