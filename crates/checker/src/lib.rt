@@ -95,7 +95,7 @@ fn third_kind(e: Edition, file: &[u8]) -> u32
 {
     let s = lines::after_line(lines::after_line(file));
     let l = fields::scan(s);
-    identifiers::kind_of(e, fields::field(fields::part(s, 0, l.len), 1))
+    identifiers::kind_of(e, fields::field(fields::part(s, 0, l.len), 1)).unwrap_or(0)
 }
 
 // Line by line, with tables that say the edition; entries go to the table where it holds them whole, and amounts to the totals.

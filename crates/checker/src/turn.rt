@@ -106,7 +106,7 @@ impl<'a> Tables<'a> {
             × ((result.kind < kinds) × (result.outer ≤ deepest)) }
     {
         let line = cells.bytes;
-        let k = identifiers::kind_of(self.edition, fields::field(line, 1));
+        let k = identifiers::kind_of(self.edition, fields::field(line, 1)).unwrap_or(0);
         Record {
             kind: k,
             outer: state::held_at(self.below, st, k),

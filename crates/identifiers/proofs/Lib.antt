@@ -1,3 +1,4 @@
+pub mod Found
 pub mod Names
 pub mod Others
 pub mod Older

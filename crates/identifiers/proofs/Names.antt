@@ -1,6 +1,7 @@
 -- Which identifier a text can be: every one is found, and nothing else is. One law for where one is left, one for where none is.
-use Rattle.std.specs.Prelude.{if◌then◌else◌}
-use Prim.Native.Nat.{ℕ, suc, ◌+◌}
+use Rattle.std.specs.Prelude.{None}
+use Rattle.std.specs.Bool.{then_some}
+use Prim.Native.Nat.{ℕ, suc, ◌+◌, ◌<◌}
 use mathlib.Core.Path.{◌≡◌, refl, sym, ap, ◌∙◌, subst}
 use mathlib.Core.Bool.{Bool, cond, true, false, ◌||◌, not, true≢false}
 use mathlib.Core.List.{List, [], ◌∷◌, map}
@@ -12,12 +13,14 @@ use borrow.Author.Tests.{eq-eqb}
 use Rattle.dirf.specs.Bytes.{Text, every, some, is_in, same}
 use Rattle.dirf.specs.Kinds.{names2025}
 use Rattle.dirf.specs.Edition.{kind_in}
-use Rattle.dirf.proofs.tests.Bools.{and_left, and_right, if_cases}
+use Rattle.dirf.proofs.tests.Bools.{and_left, and_right, by_answer, if_cases}
 use Rattle.dirf.proofs.tests.Says.{same_says}
 use Rattle.std.specs.Cmp.Lexicographic.{pointwise}
 use Rattle.std.proofs.lemmas.Bool.Decides.{nat_tests}
 use Rattle.fields.proofs.Arms.{NoneOf, none_in}
+use Rattle.identifiers.specs.Found.{kind_found}
 use Rattle.identifiers.specs.Left.{Spells, alike, number_of, is_beside, NoOther, Left}
+use Rattle.identifiers.proofs.Found.{none_found, some_found}
 
 alike_same : (a b : Text) → alike a b ≡ same a b
 unfolding same
@@ -66,11 +69,15 @@ module _ (name s : Text) (long : length s ≡ length name) (first : get_or s 0 0
       (λ q. none_left ns (rest (Spells 0 n.1 s → ⊥) more (is_beside name n.1) p))
 
 -- where one identifier is left, its kind or none is the kind
-pub one_left : {name s : Text} {k : ℕ} → Left name k s → (if same s name then k else 0) ≡ kind_in names2025 s
-one_left {name} {s} {k} left =
-    if_cases (λ x. x ≡ kind_in names2025 s) (same s name)
-    (λ q. sym left.kind ∙ number_kind names2025 name ∙ ap (kind_in names2025) (sym ((same_says s name).0 q)))
-    (λ q. sym (none_left name s left.long left.first q names2025 left.no_other))
+pub one_left : {name s : Text} {k : ℕ} → Left name k s → 0 < k
+    → then_some (same s name) k ≡ kind_found (kind_in names2025 s)
+one_left {name} {s} {k} left there =
+    by_answer (same s name)
+    (λ q.
+    let is : k ≡ kind_in names2025 s =
+    sym left.kind ∙ number_kind names2025 name ∙ ap (kind_in names2025) (sym ((same_says s name).0 q)) in
+    rw q (sym (some_found k there) ∙ ap kind_found is))
+    (λ q. rw q (sym (none_found _ (none_left name s left.long left.first q names2025 left.no_other))))
 
 -- a text that is as long begins with a name where it is that name
 pub whole : (name s : Text) → length s ≡ length name → pointwise eqb name (take (length name) s) ≡ same s name
@@ -103,11 +110,11 @@ module _ (asked : Text → Bool) (f : Text → ℕ) (bs : List ℕ) where
       (λ q. none_asked s a b ns (and_right (in_arms n) _ all))
 
 pub other_length : (bs : List ℕ) → every (in_arms (λ t. true) length bs) names2025 ≡ true → (s : Text) → NoneOf (arms bs) (length s)
-    → 0 ≡ kind_in names2025 s
-other_length bs all s b = sym (none_asked (λ t. true) length bs s refl (none_in (arms bs) (length s) b) names2025 all)
+    → kind_found (kind_in names2025 s) ≡ None
+other_length bs all s b = none_found _ (none_asked (λ t. true) length bs s refl (none_in (arms bs) (length s) b) names2025 all)
 
 pub other_first : (n : ℕ) (bs : List ℕ) → every (in_arms (λ t. eqb (length t) n) (λ t. get_or t 0 0) bs) names2025 ≡ true → (s : Text)
-    → length s ≡ n → NoneOf (arms bs) (get_or s 0 0) → 0 ≡ kind_in names2025 s
+    → length s ≡ n → NoneOf (arms bs) (get_or s 0 0) → kind_found (kind_in names2025 s) ≡ None
 other_first n bs all s l b =
-    sym
+    none_found _
     (none_asked (λ t. eqb (length t) n) (λ t. get_or t 0 0) bs s (eq-eqb (length s) n l) (none_in (arms bs) (get_or s 0 0) b) names2025 all)

@@ -6,22 +6,24 @@ ghost use Rattle.std.specs.Prelude.{◌≡◌, ◌<◌, length, get_or};
 ghost use Rattle.dirf.specs.Kinds.{names2025};
 ghost use Rattle.dirf.specs.Edition.{kind_in, kind_of};
 ghost use Rattle.editions.specs.Editions.{edition_said};
+ghost use Rattle.identifiers.specs.Found.{kind_found};
 ghost use Rattle.identifiers.specs.Left.{Begins, Left};
 
 use editions::Edition;
 use records::*;
 
-// Its kind, if this is the one identifier that is left; else 0. Not `==`, whose code is one for all lengths and took 14 instructions more.
-fn only(s: &[u8], name: &[u8], k: u32) -> u32
-    requires { Left name.now k s.now }
-    ensures { result ≡ kind_in names2025 s.now }
+// Its kind, if this is the one identifier that is left. Not `==`, whose code is one for all lengths and took 14 instructions more.
+fn only(s: &[u8], name: &[u8], k: u32) -> Option<u32>
+    requires left { Left name.now k s.now }
+    requires there { 0 < k }
+    ensures { result ≡ kind_found (kind_in names2025 s.now) }
 {
-    if s.starts_with(name) { k } else { 0 }
+    s.starts_with(name).then_some(k)
 }
 
-fn three_r(s: &[u8]) -> u32
+fn three_r(s: &[u8]) -> Option<u32>
     requires { Begins 3 "R" s.now }
-    ensures { result ≡ kind_in names2025 s.now }
+    ensures { result ≡ kind_found (kind_in names2025 s.now) }
 {
     match s[2] {
         b'O' => only(s, b"RIO", RIO),
@@ -30,9 +32,9 @@ fn three_r(s: &[u8]) -> u32
 }
 
 #[tactic(auto, using(crate::proofs::Others::of_three))]
-fn of_three(s: &[u8]) -> u32
+fn of_three(s: &[u8]) -> Option<u32>
     requires { length s.now ≡ 3 }
-    ensures { result ≡ kind_in names2025 s.now }
+    ensures { result ≡ kind_found (kind_in names2025 s.now) }
 {
     match s[0] {
         b'F' => only(s, b"FCI", FCI),
@@ -40,13 +42,13 @@ fn of_three(s: &[u8]) -> u32
         b'P' => only(s, b"PSE", PSE),
         b'R' => three_r(s),
         b'S' => only(s, b"SCP", SCP),
-        _ => 0,
+        _ => None,
     }
 }
 
-fn four_c(s: &[u8]) -> u32
+fn four_c(s: &[u8]) -> Option<u32>
     requires { Begins 4 "C" s.now }
-    ensures { result ≡ kind_in names2025 s.now }
+    ensures { result ≡ kind_found (kind_in names2025 s.now) }
 {
     match s[3] {
         b'C' => only(s, b"CJAC", CJAC),
@@ -54,9 +56,9 @@ fn four_c(s: &[u8]) -> u32
     }
 }
 
-fn four_e(s: &[u8]) -> u32
+fn four_e(s: &[u8]) -> Option<u32>
     requires { Begins 4 "E" s.now }
-    ensures { result ≡ kind_in names2025 s.now }
+    ensures { result ≡ kind_found (kind_in names2025 s.now) }
 {
     match s[2] {
         b'D' => match s[3] {
@@ -77,9 +79,9 @@ fn four_e(s: &[u8]) -> u32
     }
 }
 
-fn four_r(s: &[u8]) -> u32
+fn four_r(s: &[u8]) -> Option<u32>
     requires { Begins 4 "R" s.now }
-    ensures { result ≡ kind_in names2025 s.now }
+    ensures { result ≡ kind_found (kind_in names2025 s.now) }
 {
     match s[2] {
         b'A' => only(s, b"RIAP", RIAP),
@@ -101,9 +103,9 @@ fn four_r(s: &[u8]) -> u32
 }
 
 #[tactic(auto, using(crate::proofs::Others::of_four))]
-fn of_four(s: &[u8]) -> u32
+fn of_four(s: &[u8]) -> Option<u32>
     requires { length s.now ≡ 4 }
-    ensures { result ≡ kind_in names2025 s.now }
+    ensures { result ≡ kind_found (kind_in names2025 s.now) }
 {
     match s[0] {
         b'C' => four_c(s),
@@ -113,13 +115,13 @@ fn of_four(s: &[u8]) -> u32
         b'P' => only(s, b"PROC", PROC),
         b'R' => four_r(s),
         b'T' => only(s, b"TPSE", TPSE),
-        _ => 0,
+        _ => None,
     }
 }
 
-fn five_d(s: &[u8]) -> u32
+fn five_d(s: &[u8]) -> Option<u32>
     requires { Begins 5 "D" s.now }
-    ensures { result ≡ kind_in names2025 s.now }
+    ensures { result ≡ kind_found (kind_in names2025 s.now) }
 {
     match s[4] {
         b'D' => only(s, b"DAJUD", DAJUD),
@@ -129,9 +131,9 @@ fn five_d(s: &[u8]) -> u32
     }
 }
 
-fn five_i(s: &[u8]) -> u32
+fn five_i(s: &[u8]) -> Option<u32>
     requires { Begins 5 "I" s.now }
-    ensures { result ≡ kind_in names2025 s.now }
+    ensures { result ≡ kind_found (kind_in names2025 s.now) }
 {
     match s[2] {
         b'R' => only(s, b"IDREC", IDREC),
@@ -143,9 +145,9 @@ fn five_i(s: &[u8]) -> u32
 }
 
 // The third byte is before R.
-fn five_r_to_q(s: &[u8]) -> u32
+fn five_r_to_q(s: &[u8]) -> Option<u32>
     requires { Begins 5 "R" s.now × (get_or s.now 2 0 < 82) }
-    ensures { result ≡ kind_in names2025 s.now }
+    ensures { result ≡ kind_found (kind_in names2025 s.now) }
 {
     match s[2] {
         b'B' => only(s, b"RIBMR", RIBMR),
@@ -168,9 +170,9 @@ fn five_r_to_q(s: &[u8]) -> u32
     }
 }
 
-fn five_r(s: &[u8]) -> u32
+fn five_r(s: &[u8]) -> Option<u32>
     requires { Begins 5 "R" s.now }
-    ensures { result ≡ kind_in names2025 s.now }
+    ensures { result ≡ kind_found (kind_in names2025 s.now) }
 {
     match s[2] {
         0..=b'Q' => five_r_to_q(s),
@@ -186,9 +188,9 @@ fn five_r(s: &[u8]) -> u32
     }
 }
 
-fn five_v(s: &[u8]) -> u32
+fn five_v(s: &[u8]) -> Option<u32>
     requires { Begins 5 "V" s.now }
-    ensures { result ≡ kind_in names2025 s.now }
+    ensures { result ≡ kind_found (kind_in names2025 s.now) }
 {
     match s[2] {
         b'E' => only(s, b"VPEIM", VPEIM),
@@ -197,9 +199,9 @@ fn five_v(s: &[u8]) -> u32
 }
 
 #[tactic(auto, using(crate::proofs::Others::of_five))]
-fn of_five(s: &[u8]) -> u32
+fn of_five(s: &[u8]) -> Option<u32>
     requires { length s.now ≡ 5 }
-    ensures { result ≡ kind_in names2025 s.now }
+    ensures { result ≡ kind_found (kind_in names2025 s.now) }
 {
     match s[0] {
         b'B' => only(s, b"BRPDE", BRPDE),
@@ -207,13 +209,13 @@ fn of_five(s: &[u8]) -> u32
         b'I' => five_i(s),
         b'R' => five_r(s),
         b'V' => five_v(s),
-        _ => 0,
+        _ => None,
     }
 }
 
-fn six_b(s: &[u8]) -> u32
+fn six_b(s: &[u8]) -> Option<u32>
     requires { Begins 6 "B" s.now }
-    ensures { result ≡ kind_in names2025 s.now }
+    ensures { result ≡ kind_found (kind_in names2025 s.now) }
 {
     match s[2] {
         b'F' => match s[5] {
@@ -230,9 +232,9 @@ fn six_b(s: &[u8]) -> u32
     }
 }
 
-fn six_r(s: &[u8]) -> u32
+fn six_r(s: &[u8]) -> Option<u32>
     requires { Begins 6 "R" s.now }
-    ensures { result ≡ kind_in names2025 s.now }
+    ensures { result ≡ kind_found (kind_in names2025 s.now) }
 {
     match s[2] {
         b'J' => only(s, b"RIJMRE", RIJMRE),
@@ -241,20 +243,20 @@ fn six_r(s: &[u8]) -> u32
 }
 
 #[tactic(auto, using(crate::proofs::Others::of_six))]
-fn of_six(s: &[u8]) -> u32
+fn of_six(s: &[u8]) -> Option<u32>
     requires { length s.now ≡ 6 }
-    ensures { result ≡ kind_in names2025 s.now }
+    ensures { result ≡ kind_found (kind_in names2025 s.now) }
 {
     match s[0] {
         b'B' => six_b(s),
         b'R' => six_r(s),
-        _ => 0,
+        _ => None,
     }
 }
 
-fn seven_b(s: &[u8]) -> u32
+fn seven_b(s: &[u8]) -> Option<u32>
     requires { Begins 7 "B" s.now }
-    ensures { result ≡ kind_in names2025 s.now }
+    ensures { result ≡ kind_found (kind_in names2025 s.now) }
 {
     match s[2] {
         b'F' => only(s, b"BPFPROC", BPFPROC),
@@ -263,22 +265,22 @@ fn seven_b(s: &[u8]) -> u32
 }
 
 #[tactic(auto, using(crate::proofs::Others::of_seven))]
-fn of_seven(s: &[u8]) -> u32
+fn of_seven(s: &[u8]) -> Option<u32>
     requires { length s.now ≡ 7 }
-    ensures { result ≡ kind_in names2025 s.now }
+    ensures { result ≡ kind_found (kind_in names2025 s.now) }
 {
     match s[0] {
         b'B' => seven_b(s),
         b'F' => only(s, b"FIMDirf", FIMDIRF),
         b'Q' => only(s, b"QTMESES", QTMESES),
-        _ => 0,
+        _ => None,
     }
 }
 
 // The kind in the edition of 2025, which has all identifiers.
 #[tactic(auto, using(crate::proofs::Others::of_other_length))]
-fn known(s: &[u8]) -> u32
-    ensures { result ≡ kind_in names2025 s.now }
+fn known(s: &[u8]) -> Option<u32>
+    ensures { result ≡ kind_found (kind_in names2025 s.now) }
 {
     match s.len() {
         3 => of_three(s),
@@ -286,17 +288,17 @@ fn known(s: &[u8]) -> u32
         5 => of_five(s),
         6 => of_six(s),
         7 => of_seven(s),
-        _ => 0,
+        _ => None,
     }
 }
 
-// The kind that an identifier names in an edition; 0: unknown.
+// The kind that an identifier names in an edition, if it names one.
 #[tactic(auto, using(crate::proofs::Older::by_tests), unfolding(dirf::specs::Editions::edition_named, dirf::specs::Edition::edition_opens))]
-pub fn kind_of(e: Edition, s: &[u8]) -> u32
-    ensures { result ≡ kind_of (edition_said e) s.now }
+pub fn kind_of(e: Edition, s: &[u8]) -> Option<u32>
+    ensures { result ≡ kind_found (kind_of (edition_said e) s.now) }
 {
     match (e, known(s)) {
-        (Edition::Of2022, RTDS | ESDS) => 0,
-        (_, k) => k,
+        (Edition::Of2022, Some(RTDS | ESDS)) => None,
+        (_, found) => found,
     }
 }

@@ -5,6 +5,7 @@ use Rattle.dirf.specs.Bytes.{Text}
 use Rattle.dirf.specs.Lines.{clean}
 use Rattle.checker.specs.Lines.{third_kind}
 use Rattle.checker.proofs.lines.NextLine.{line_is}
+use Rattle.identifiers.proofs.Found.{found_number}
 use Rattle.checker.proofs.third_kind.Goals as goal
 
 line : (s : Text) → part_of s 0 (scan_of s).len ≡ clean s
@@ -15,7 +16,9 @@ pub returns : goal.returns
 unfolding third_kind
 returns c =
     simp (
+      c.unwrap_or.ensures,
       c.kind_of.ensures,
+      found_number,
       c.field.ensures.0,
       c.part.ensures.0,
       c.scan-l.ensures,

@@ -1,10 +1,9 @@
 -- Where one identifier is left, its kind or none is the kind.
-use Rattle.std.proofs.Common.{arith}
+use Rattle.std.specs.Bool.{then_some}
+use mathlib.Core.Path.{ap, ◌∙◌}
 use Rattle.identifiers.proofs.Names.{whole, one_left}
 use Rattle.identifiers.proofs.only.Goals as goal
 
-pub returns-then-starts_with : goal.returns-then-starts_with
-returns-then-starts_with c = let w = whole _ _ c.requires.long in let e = one_left c.requires in grind arith
-
-pub returns-else-starts_with : goal.returns-else-starts_with
-returns-else-starts_with c = let w = whole _ _ c.requires.long in let e = one_left c.requires in grind arith
+pub returns : goal.returns
+returns c =
+    c.then_some.ensures ∙ ap (λ b. then_some b c.args.k) (c.starts_with.ensures.value ∙ whole _ _ c.requires.left.long) ∙ one_left c.requires.left c.requires.there
