@@ -14,6 +14,7 @@ const BYTES: usize = 65536;
 const ENTRIES: usize = 3000;
 
 // What the desk answers for a file: 25 for one that is too long, else what the check answers with the desk's table.
+#[tactic(auto, using(std::proofs::lemmas::Bool::Decides::nat_tests), unfolding(crate::specs::Desk::desk_answer))]
 fn desk_answer(file: &[u8]) -> Answer
     ensures { result ≡ desk_answer file.now }
 {
