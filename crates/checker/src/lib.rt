@@ -60,6 +60,7 @@ fn put_entry(table: &mut [u32], n: u32, row: &[u32])
     requires { (n ≤ lines_limit) × (length row.now ≡ numbers_an_entry) }
     ensures { table.new ≡ put_entry table.old n row.now }
 {
+    // `as`, here and in the other modules: no From takes a u32 to a usize or back, and what is kept in 32 bits fits
     let n = n as usize;
     if n < table.len() / NUMBERS_AN_ENTRY {
         put_numbers(table, NUMBERS_AN_ENTRY * n, row);

@@ -12,7 +12,7 @@ const BYTES: usize = 4194304;
 
 const LINES: usize = 65536;
 
-// What a search is asked: the person of a CPF in this file, below the IDREC of a line.
+// What a search is asked, by the words of the command: the person of a CPF in this file, below the IDREC of a line.
 #[derive(Clone, Copy)]
 struct Question<'a> {
     file: &'a [u8],

@@ -338,6 +338,7 @@ pub fn contents_found(
     for i in 0..layout::field_count(rows, k).min(cells.places.count) {
         let field = i + 1;
         if let Err(refusal) = field_rule(name, cells.field(field), layout::row_at(rows, k, i)) {
+            // `as`: no From takes a usize to a u32, and this is at most 15
             return Err(refusal.at(field as u32));
         }
     }

@@ -38,6 +38,7 @@ fn put_digits(v: u64, n: usize, out: &mut [u8])
 {
     let mut x = v;
     for i in (0..n).rev() {
+        // `as`: no From takes a u64 to a u8, and this is at most 9
         out[i] = b'0' + (x % 10) as u8;
         x /= 10;
     }
