@@ -22,6 +22,7 @@ ghost use Rattle.checker.specs.Totals.{totals_in};
 ghost use Rattle.checker.specs.Answers.{answer_of, table_after, entry_of_code, put_entry, put_last, put_lasts, SayAll, Judged};
 
 use editions::Edition;
+use records::DECPF;
 use refusals::{Breach, Refusal};
 use state::{DEPTH, Last, Open};
 use turn::{Entry, Tables};
@@ -29,7 +30,8 @@ use turn::{Entry, Tables};
 // Document 02, A6: "Room in refusal 7 is now five numbers an entry".
 pub const NUMBERS_AN_ENTRY: usize = 5;
 
-// 0, the last line, 0 on acceptance; else a number, a line and a field; and how many entries the table has.
+// 0, the last line, 0 on acceptance; else a number, a line and a field; and how many entries the table has. Numbers and no Result: C is
+// given them as they stand, and acceptance has a line and entries too.
 #[derive(Clone, Copy)]
 pub struct Answer {
     pub number: u32,
@@ -58,6 +60,7 @@ fn put_entry(table: &mut [u32], n: u32, row: &[u32])
     requires { (n ≤ lines_limit) × (length row.now ≡ numbers_an_entry) }
     ensures { table.new ≡ put_entry table.old n row.now }
 {
+    // `as`, here and in the other modules: no From takes a u32 to a usize or back, and what is kept in 32 bits fits
     let n = n as usize;
     if n < table.len() / NUMBERS_AN_ENTRY {
         put_numbers(table, NUMBERS_AN_ENTRY * n, row);
@@ -123,8 +126,7 @@ fn walk(tables: Tables, file: &[u8], room: usize, table: &mut [u32], totals: &mu
         let entry = turn::entry_of(st, r);
         let own = st.count + 1;
         put_entry(table, st.count, &entry_numbers(entry, own));
-        let path = st.path;
-        put_lasts(table, path.opened, r.outer, own);
+        put_lasts(table, st.path.opened, r.outer, own);
         past[i] = Last {
             under: entry.parent,
             start: entry.start,
@@ -169,7 +171,7 @@ fn judged(file: &[u8], room: usize, table: &mut [u32], totals: &mut [u64]) -> An
     ensures totals { totals.new ≡ totals_in (total_by (edition_of file.now) file.now room) totals.old }
 {
     let e = editions::edition_of(file);
-    if third_kind(e, file) == 3 {
+    if third_kind(e, file) == DECPF {
         return walk_pf(e, file, room, table, totals);
     }
     walk_pj(e, file, room, table, totals)
@@ -181,16 +183,14 @@ pub fn check(file: &[u8], table: &mut [u32]) -> Answer
     ensures entries { table.new
         ≡ table_after (answer_to file.now (length table.old / numbers_an_entry)) table.old }
 {
-    let mut totals = [0u64; 1];
-    check_totals(file, table, &mut totals[0..0])
+    check_totals(file, table, &mut [])
 }
 
-// The check with a room in entries and no table.
+// The check with a room in entries and no table; a function of its own, since a room may be larger than any table.
 pub fn check_room(file: &[u8], room: usize) -> Answer
     ensures { result ≡ answer_of (answer_to file.now room) }
 {
-    let mut totals = [0u64; 1];
-    room_totals(file, room, &mut totals[0..0])
+    room_totals(file, room, &mut [])
 }
 
 // The check with totals beside the table: at place k that of kind k, of every line on acceptance, of those before the bad one on refusal.
@@ -209,6 +209,5 @@ pub fn room_totals(file: &[u8], room: usize, totals: &mut [u64]) -> Answer
     ensures answer { result ≡ answer_of (answer_to file.now room) }
     ensures totals { totals.new ≡ totals_in (total_of file.now room) totals.old }
 {
-    let mut table = [0u32; NUMBERS_AN_ENTRY];
-    judged(file, room, &mut table[0..0], totals)
+    judged(file, room, &mut [], totals)
 }

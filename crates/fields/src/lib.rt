@@ -115,19 +115,19 @@ pub fn less(a: &[u8], b: &[u8]) -> bool
 }
 
 // Whether the key of fields 2 and 3, a then b, comes before that of x then y: of the first field alone, or of both.
-#[tactic(auto, using(crate::proofs::Keys::both_fields))]
+#[tactic(auto, using(crate::proofs::Compare::pair_lem, crate::proofs::Keys::both_fields))]
 fn then_less(a: &[u8], b: &[u8], x: &[u8], y: &[u8]) -> bool
     ensures { result ≡ key_less (a.now ∷ b.now ∷ []) (x.now ∷ y.now ∷ []) }
 {
-    less(a, x) || same(a, x) && less(b, y)
+    (a, b) < (x, y)
 }
 
 // Whether a number comes before another: the one with fewer digits first, then byte by byte.
-#[tactic(auto, using(crate::proofs::Keys::numbers, std::proofs::lemmas::Bool::Decides::nat_tests))]
+#[tactic(auto, using(crate::proofs::Compare::sized_lem, crate::proofs::Keys::numbers))]
 fn number_less(a: &[u8], b: &[u8]) -> bool
     ensures { result ≡ key_less (fewer_digits_first a.now) (fewer_digits_first b.now) }
 {
-    a.len() < b.len() || a.len() == b.len() && less(a, b)
+    (a.len(), a) < (b.len(), b)
 }
 
 // Whether a key of field 2 alone comes before another: that of RTPSE and RDTPSE is a CPF or a CNPJ.

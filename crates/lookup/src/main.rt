@@ -12,7 +12,7 @@ const BYTES: usize = 4194304;
 
 const LINES: usize = 65536;
 
-// What a search is asked: the person of a CPF in this file, below the IDREC of a line.
+// What a search is asked, by the words of the command: the person of a CPF in this file, below the IDREC of a line.
 #[derive(Clone, Copy)]
 struct Question<'a> {
     file: &'a [u8],
@@ -70,7 +70,7 @@ fn main(rt: HostRuntime) -> io::Result<()> {
     // the search takes a number in any case, and 0 is no line's
     let line = word(&rt, 1, &mut digits).and_then(line_of).unwrap_or(0);
     let cpf = word(&rt, 2, &mut cpf).unwrap_or(&[]);
-    // where a read fails, the bytes that came are checked: of a whole file nothing is missing then, and of another the check says so
+    // where a read fails, the bytes that came are checked, as if the file ended there
     let count = input::read_all(&mut rt.reader(), &mut file).unwrap_or_else(|failed| failed.count);
     if BYTES < count {
         // nothing on standard output: nothing there may be taken for acceptance

@@ -54,7 +54,7 @@ impl Refusal {
     }
 }
 
-// A refusal in a file or a record: why, and the field that it names, 0 where it names none.
+// A refusal in a file or a record: why, and the field that it names, 0 where it names none, as document 01 has it.
 #[derive(Clone, Copy, PartialEq, Eq)]
 pub struct Breach {
     pub refusal: Refusal,

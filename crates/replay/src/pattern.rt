@@ -7,6 +7,7 @@ pub trait Pattern: PartialEq + Copy {
 
 impl Pattern for u32 {
     fn before(place: usize) -> u32 {
+        // `as`, here and below: no From takes a usize to a smaller number, and what is left of the place fits
         3735928559 - (place % 65536) as u32
     }
 }

@@ -46,6 +46,7 @@ pub fn replay_search(rt: &impl Print, input: &mut impl Read) -> Result<(), Stop>
     Ok(())
 }
 
+// It reads as the one above does, but for the table; a closure for that would read the input between two of these lines, no plainer.
 pub fn replay_search_given(rt: &impl Print, input: &mut impl Read) -> Result<(), Stop> {
     let mut numbers = [0u32; NUMBERS];
     let mut file = [0u8; BYTES];

@@ -28,7 +28,7 @@ pub struct Centavos(pub u64);
 #[derive(Clone, Copy)]
 pub struct MonthTenths(pub u64);
 
-// The rows that say what an amount and a month count are.
+// The rows that say what an amount and a month count are. Letters, since a row is read from a table that may hold any bytes.
 const AMOUNT: Row = Row {
     format: b'N',
     fill: b'V',
@@ -172,6 +172,7 @@ fn zero_in_front(holds: u8, s: &[u8]) -> bool
     matches!(s, [b'0', ..]) && takes_no_zero(holds)
 }
 
+// The one byte of a text, else 0, which no list of printed values has: so it needs no Option.
 #[tactic(auto, using(crate::proofs::Letters::only_lem, std::proofs::lemmas::Bool::Decides::nat_tests))]
 fn only_byte(s: &[u8]) -> u8
     ensures { result ≡ only_byte s.now }
@@ -306,7 +307,7 @@ pub fn read_amount(s: &[u8]) -> Result<Centavos, Refusal>
     Ok(Centavos(read_number(s, AMOUNT)?))
 }
 
-// A month count in tenths of a month: 0 for the empty field, else refused with 14, 15 or 16.
+// A month count in tenths of a month: 0 for the empty field, else 14, 15 or 16. Beside `read_amount`, since the units never mix.
 #[tactic(auto, unfolding(crate::proofs::Readings::rows_open))]
 pub fn read_months(s: &[u8]) -> Result<MonthTenths, Refusal>
     ensures { reading_said (λ m. m.0) result ≡ read_months s.now }
@@ -337,6 +338,7 @@ pub fn contents_found(
     for i in 0..layout::field_count(rows, k).min(cells.places.count) {
         let field = i + 1;
         if let Err(refusal) = field_rule(name, cells.field(field), layout::row_at(rows, k, i)) {
+            // `as`: no From takes a usize to a u32, and this is at most 15
             return Err(refusal.at(field as u32));
         }
     }

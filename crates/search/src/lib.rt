@@ -12,7 +12,7 @@ use checker::NUMBERS_AN_ENTRY;
 use records::{BPFDEC, BPFFCI, BPFPROC, BPFRRA, BPFSCP, BPJDEC, BPJFCI, BPJPROC, BPJSCP, IDREC};
 use refusals::Refusal;
 
-// The line of the person found, 0 for none, and how many entries of beneficiaries were looked at.
+// The line of the person found, 0 for none as document 02 has it, and how many entries of beneficiaries were looked at.
 #[derive(Clone, Copy, PartialEq, Eq)]
 pub struct Found {
     pub line: u32,
@@ -136,6 +136,7 @@ impl<'a> Lines<'a> {
     {
         let mut at = line;
         let mut count = 0;
+        // no `for`: each entry says itself how far the next step goes
         while at < end {
             let n = at + 1;
             let e = self.beneficiary(n)?;

@@ -40,6 +40,7 @@ pub extern "C" fn decklesail_check_field(file: &[u8], room: usize) -> u32
 fn total_at(totals: &[u64], kind: u32) -> u64
     ensures { result ≡ get_or totals.now kind 0 }
 {
+    // `as`: no From takes a u32 to a usize
     totals.get(kind as usize).copied().unwrap_or(0)
 }
 

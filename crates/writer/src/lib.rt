@@ -18,7 +18,7 @@ use layout::{NAME_BYTES, ROW_BYTES};
 use refusals::{Breach, Refusal};
 use rules::{Centavos, MonthTenths};
 
-// How many digits a number has, none for zero.
+// How many digits a number has, none for zero. They come out of the number by division: there is no sequence to go along.
 fn count_digits(v: u64) -> usize
     ensures { result ≡ length (decimal 20 v) }
 {
@@ -38,12 +38,13 @@ fn put_digits(v: u64, n: usize, out: &mut [u8])
 {
     let mut x = v;
     for i in (0..n).rev() {
+        // `as`: no From takes a u64 to a u8, and this is at most 9
         out[i] = b'0' + (x % 10) as u8;
         x /= 10;
     }
 }
 
-// A number of at most `size` digits, the largest of which is `limit`; how many bytes it has.
+// A number of at most `size` digits, the largest of which is `limit`, so that no power is worked out; how many bytes it has.
 fn write_number(v: u64, size: usize, limit: u64, out: &mut [u8]) -> Result<usize, Refusal>
     requires { (limit ≡ largest size) × (size ≤ 20) }
     ensures said { number_answered result ≡ answered (write_number size v (length out.old)) }
@@ -69,7 +70,7 @@ pub fn write_amount(v: Centavos, out: &mut [u8]) -> Result<usize, Refusal>
     write_number(v.0, 13, 9999999999999, out)
 }
 
-// A month count: 15 over the limit, then 24 for too little room; zero writes no byte.
+// A month count: 15 over the limit, then 24 for too little room; zero writes no byte. Beside `write_amount`, since the units never mix.
 #[tactic(auto, unfolding(dirf::specs::Amounts::write_months))]
 pub fn write_months(v: MonthTenths, out: &mut [u8]) -> Result<usize, Refusal>
     ensures said { number_answered result ≡ answered (write_months v.0 (length out.old)) }
@@ -176,7 +177,7 @@ impl<'a> Asked<'a> {
     }
 }
 
-// 24: no room for the contents, a bar a field and CR LF.
+// 24: no room for the contents, a bar a field and CR LF. Step by step, since the sum may pass any integer.
 #[tactic(auto, using(std::proofs::lemmas::Bool::Decides::nat_tests))]
 fn too_small(bytes: usize, count: usize, room: usize) -> bool
     ensures { result ≡ ltb room (bytes + count + 2) }

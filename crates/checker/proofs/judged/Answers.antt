@@ -20,8 +20,8 @@ own_totals : {n : EditionName} (file : Text) (room : ℕ) (first : List ℕ) {la
 unfolding edition_of
 own_totals {n} file room first {last} e = subst (λ n. last ≡ totals_in (total_by (edition_named n) file room) first) e
 
-pub returns-then-third_kind-eq3 : goal.returns-then-third_kind-eq3
-returns-then-third_kind-eq3 c =
+pub returns-then-third_kind-eq-DECPF : goal.returns-then-third_kind-eq-DECPF
+returns-then-third_kind-eq-DECPF c =
     let w = c.walk_pf.ensures in
     record {
       judged = own c.edition_of-e.ensures w.judged;
