@@ -47,6 +47,7 @@ fn entry_numbers(e: Entry, own: u32) -> [u32; NUMBERS_AN_ENTRY]
     [e.kind, e.start, e.len, e.parent, own]
 }
 
+// The table is numbers and no entries: C lends it so.
 // Numbers written from place i on.
 fn put_numbers(table: &mut [u32], i: usize, row: &[u32])
     requires { i + length row.now ≤ length table.old }
@@ -110,6 +111,7 @@ fn walk(tables: Tables, file: &[u8], room: usize, table: &mut [u32], totals: &mu
     totals::clear(totals);
     let mut st = state::start();
     let mut past = state::nothing();
+    // no for: it goes from state to state until there is an answer, and counts no index
     loop {
         let r = match tables.turn(file, st) {
             Ok(r) => r,
@@ -137,6 +139,7 @@ fn walk(tables: Tables, file: &[u8], room: usize, table: &mut [u32], totals: &mu
     }
 }
 
+// What is lent goes down as it came: a struct of two &mut would be built and taken apart once.
 // A file whose line 3 is a DECPF, and any other. Each makes its own tables: of two calls the compiler keeps one function, with its own
 // stack.
 fn walk_pf(e: Edition, file: &[u8], room: usize, table: &mut [u32], totals: &mut [u64]) -> Answer

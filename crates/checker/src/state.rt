@@ -25,8 +25,10 @@ pub(crate) struct Open {
     pub(crate) kind: u32,
 }
 
+// No Option: a record that belongs to nothing has parent 0 in the table, and may_hold takes kind 0. So has the declarant before line 3.
 const NO_RECORD: Open = Open { line: 0, kind: 0 };
 
+// No heap, so the open records stand in an array, and beside it how many they are.
 // The open records, outermost first, and how many they are.
 #[derive(Clone, Copy)]
 pub(crate) struct Path {
@@ -34,6 +36,7 @@ pub(crate) struct Path {
     pub(crate) opened: [Open; DEPTH],
 }
 
+// No Option for a kind not seen: under is 0 then, the parent of lines that have no key and may not be repeated.
 // The parent's line under which a kind stood last, and where that line of it stands. Nothing of it is ever cleared.
 #[derive(Clone, Copy)]
 pub(crate) struct Last {
@@ -181,6 +184,7 @@ fn repeated(last: Last, k: u32, p: u32) -> bool
     kinds::stands_once(k) && last.under == p
 }
 
+// No struct of the six: look_found alone takes them, and repeated asks three.
 // 20, of a record below line p with these fields 2 and 3.
 #[tactic(auto, using(std::proofs::lemmas::Bool::Decides::nat_tests), unfolding(crate::proofs::Opens::key_opens))]
 fn key_bad(text: &[u8], last: Last, k: u32, p: u32, second: &[u8], third: &[u8]) -> bool
@@ -249,13 +253,11 @@ pub(crate) fn state_after(st: State, k: u32, d: usize, len: usize) -> State
     ensures { result ≡ state_after st k d len }
 {
     let n = st.count + 1;
-    let at = st.at;
-    let path = st.path;
     State {
         count: n,
-        at: at + len + 2,
-        done: k == 73,
+        at: st.at + len + 2,
+        done: k == FIMDIRF,
         declarant: declarant_of(st, k),
-        path: path_after(path, k, d, n),
+        path: path_after(st.path, k, d, n),
     }
 }

@@ -24,6 +24,7 @@ fn digit(b: u8) -> u64
     u64::from(b - b'0')
 }
 
+// By hand: std reads one text that is a number, and this goes once over fields and bars.
 // The sum of the first n amounts of a text, each ended by its bar. They have kept the rules: each is digits, and the sum fits.
 fn sum_of(s: &[u8], n: usize) -> Centavos
     requires { Summable n s.now }

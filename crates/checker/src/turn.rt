@@ -95,7 +95,12 @@ impl<'a> Tables<'a> {
             return Err(Breach::from(Refusal::WrongFieldCount));
         }
         let name = cells.places.first[0];
-        rules::contents_found(cells, fields::part(cells.bytes, name.start, name.len), self.rows, k)
+        rules::contents_found(
+            cells,
+            fields::part(cells.bytes, name.start, name.len),
+            self.rows,
+            k,
+        )
     }
 
     // The line as a record: its kind by its identifier, and its place by its kind.
@@ -179,9 +184,6 @@ impl<'a> Tables<'a> {
         if LINES <= n {
             return Err(refused(n, Breach::from(Refusal::TooManyLines)));
         }
-        match self.lined(file, st) {
-            Ok(r) => Ok(r),
-            Err(breach) => Err(refused(n, breach)),
-        }
+        self.lined(file, st).map_err(|breach| refused(n, breach))
     }
 }

@@ -20,6 +20,7 @@ fn times(weight: u8, b: u8) -> u16
     }
 }
 
+// The bound of 13 stands in each clause, and no array has it: one less than N is a computed const argument, which Rattle has not.
 // The sum of the digits, each times its weight.
 #[tactic(auto, using(crate::proofs::Weighted::one_more, crate::proofs::Weighted::all_counted))]
 fn weighted_sum(weights: &[u8], s: &[u8]) -> u32

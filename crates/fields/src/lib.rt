@@ -23,6 +23,7 @@ pub struct Place {
     pub len: usize,
 }
 
+// The count goes on past the places: number 11 is asked of it.
 // Where the fields of a line stand: how many there are, and the places of the first fifteen.
 #[derive(Clone, Copy)]
 pub struct Places {
@@ -232,6 +233,7 @@ pub fn scan(s: &[u8]) -> Scanned
             start = i + 1;
         }
     }
+    // built twice: one ending would need a flag or a second length
     Scanned {
         len: s.len(),
         places,

@@ -1,5 +1,5 @@
 -- Which identifier a text can be: every one is found, and nothing else is. One law for where one is left, one for where none is.
-use Rattle.std.specs.Prelude.{None}
+use Rattle.std.specs.Prelude.{None, if◌then◌else◌}
 use Rattle.std.specs.Bool.{then_some}
 use Prim.Native.Nat.{ℕ, suc, ◌+◌, ◌<◌}
 use mathlib.Core.Path.{◌≡◌, refl, sym, ap, ◌∙◌, subst}
@@ -69,15 +69,17 @@ module _ (name s : Text) (long : length s ≡ length name) (first : get_or s 0 0
       (λ q. none_left ns (rest (Spells 0 n.1 s → ⊥) more (is_beside name n.1) p))
 
 -- where one identifier is left, its kind or none is the kind
-pub one_left : {name s : Text} {k : ℕ} → Left name k s → 0 < k
-    → then_some (same s name) k ≡ kind_found (kind_in names2025 s)
-one_left {name} {s} {k} left there =
-    by_answer (same s name)
-    (λ q.
-    let is : k ≡ kind_in names2025 s =
-    sym left.kind ∙ number_kind names2025 name ∙ ap (kind_in names2025) (sym ((same_says s name).0 q)) in
-    rw q (sym (some_found k there) ∙ ap kind_found is))
-    (λ q. rw q (sym (none_found _ (none_left name s left.long left.first q names2025 left.no_other))))
+pub one_left : {name s : Text} {k : ℕ} → Left name k s → (if same s name then k else 0) ≡ kind_in names2025 s
+one_left {name} {s} {k} left =
+    if_cases (λ x. x ≡ kind_in names2025 s) (same s name)
+    (λ q. sym left.kind ∙ number_kind names2025 name ∙ ap (kind_in names2025) (sym ((same_says s name).0 q)))
+    (λ q. sym (none_left name s left.long left.first q names2025 left.no_other))
+
+-- and so it is found
+pub found_left : {name s : Text} {k : ℕ} → Left name k s → 0 < k → then_some (same s name) k ≡ kind_found (kind_in names2025 s)
+found_left {name} {s} {k} left there =
+    by_answer (same s name) (λ q. rw q (sym (some_found k there))) (λ q. rw q (sym (none_found 0 refl)))
+    ∙ ap kind_found (one_left left)
 
 -- a text that is as long begins with a name where it is that name
 pub whole : (name s : Text) → length s ≡ length name → pointwise eqb name (take (length name) s) ≡ same s name

@@ -21,6 +21,7 @@ fn only(s: &[u8], name: &[u8], k: u32) -> Option<u32>
     s.starts_with(name).then_some(k)
 }
 
+// A function a length, and a function a letter: each match has other bytes and texts, which no size or constant tells apart.
 fn three_r(s: &[u8]) -> Option<u32>
     requires { Begins 3 "R" s.now }
     ensures { result ≡ kind_found (kind_in names2025 s.now) }

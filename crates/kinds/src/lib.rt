@@ -12,6 +12,7 @@ use records::*;
 // The kinds are numbered from 1, and 0 is none.
 pub const KINDS: usize = 74;
 
+// Four numbers and no struct: it answers for every u32, here and in `may_hold` of layout.
 // Where the table cannot say it: below an IDREC the block is asked, and an ESPA stands below the INFPA of a BPFDEC.
 #[tactic(auto, using(std::proofs::lemmas::Bool::Decides::nat_tests), unfolding(dirf::specs::Tree::suits))]
 pub fn suits(declarant: u32, holder: u32, outer: u32, kind: u32) -> bool

@@ -18,6 +18,7 @@ pub const HOLDERS: usize = 68;
 
 pub const COLUMNS: usize = 69;
 
+// Bytes, and no slices or structs: `name` promises a part of the lent table, and the lookups answer of any bytes.
 // A slot of the identifiers: a length and seven bytes. A record's line of rows: a count, and room for the rows of the most fields.
 const SLOT: usize = 8;
 
@@ -32,6 +33,7 @@ pub const NAME_BYTES: usize = KINDS * SLOT;
 pub const ROW_BYTES: usize = KINDS * RECORD;
 
 // The kinds that the older edition lacks, those below which they stand, and where a row of Dirf has what its field holds.
+// `as`: no From takes a u32 to a usize in a constant
 const RTDS: usize = records::RTDS as usize;
 
 const ESDS: usize = records::ESDS as usize;
@@ -201,6 +203,7 @@ const ROWS: [u8; ROW_BYTES] = *b"\
     \x01CF\x07Si......................................................................";
 
 // Which record may stand directly below which: a row for each parent, a column for each child; one table for each declarant.
+// Document 01 asks for a constant array of arrays.
 const BELOW_DECPF: [[u8; COLUMNS]; HOLDERS] = [
     *b".....................................................................",
     *b".....................................................................",
@@ -343,6 +346,7 @@ const BELOW_DECPJ: [[u8; COLUMNS]; HOLDERS] = [
     *b"....................................................................Y",
 ];
 
+// Letters and no enums: row_at and rules' field_rule answer of every five bytes.
 // A row of the field table: five bytes.
 #[derive(Clone, Copy)]
 pub struct Row {

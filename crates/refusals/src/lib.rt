@@ -40,6 +40,7 @@ impl Refusal {
     pub fn number(self) -> u32
         ensures { result ≡ number_for self }
     {
+        // `as`: the number is the variant's own
         self as u32
     }
 

@@ -20,6 +20,7 @@ pub fn replay_check(rt: &impl Print, input: &mut impl Read) -> Result<(), Stop> 
     Ok(())
 }
 
+// It begins as replay_check does: the spaces are its own, so a function for these lines would be lent each of them.
 pub fn replay_totals(rt: &impl Print, input: &mut impl Read) -> Result<(), Stop> {
     let mut numbers = [0u32; NUMBERS];
     let mut bytes = [0u8; BYTES];

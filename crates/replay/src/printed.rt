@@ -4,6 +4,7 @@ use checker::Answer;
 use std::fmt;
 
 // Number, line, field and entries.
+// As desk prints it: checker, which has the Answer, is in the library for C and prints nothing.
 #[derive(Clone, Copy)]
 pub struct Checked(pub Answer);
 

@@ -5,6 +5,7 @@ use crate::stop::{BadCase, Stop};
 use std::io;
 use std::io::Read;
 
+// lookup has one too, of a command's words: the two have one call of search in common.
 // What a search is asked beside its table.
 #[derive(Clone, Copy)]
 struct Question<'a> {

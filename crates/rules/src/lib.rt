@@ -94,6 +94,7 @@ fn takes_no_zero(holds: u8) -> bool
     matches!(holds, b'a' | b'd' | b'm')
 }
 
+// No type for digits: is_date cuts them in three, and would have to build a value of it for each.
 // The value of digits, however many: from 10^18 on it is 10^18, so that it fits.
 fn capped(s: &[u8]) -> u64
     requires { every is_digit s.now ≡ true }

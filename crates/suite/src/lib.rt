@@ -63,6 +63,7 @@ pub extern "C" fn decklesail_totals(file: &[u8], room: usize, totals: &mut [u64]
     checker::room_totals(file, room, totals).number
 }
 
+// No From: Edition and u32 are both of other crates.
 fn year(e: Edition) -> u32
     ensures { result ≡ year_of (edition_says e) }
 {

@@ -31,6 +31,7 @@ fn count_digits(v: u64) -> usize
     n
 }
 
+// By hand: std prints into an output of its own, and this writes into a lent slice.
 // The digits of a number, the last one first, at the beginning of an output.
 fn put_digits(v: u64, n: usize, out: &mut [u8])
     requires { (n ≡ length (decimal 20 v)) × (n ≤ length out.old) }
@@ -193,7 +194,7 @@ fn too_small(bytes: usize, count: usize, room: usize) -> bool
 }
 
 // The line of a kind, in an edition, and the contents of its fields, one after another with their lengths: how many bytes it has; or the
-// first refusal.
+// first refusal. Contents and lengths by themselves: the promise is of these two.
 pub fn write_line(
     e: Edition,
     kind: u32,
