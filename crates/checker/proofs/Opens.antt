@@ -5,11 +5,11 @@ use Rattle.dirf.specs.Rules.{given, or_else}
 use Rattle.dirf.specs.Tree.{opening, may_follow}
 use Rattle.dirf.specs.Keys.{has_key}
 use Rattle.fields.specs.Places.{cell_at}
-use Rattle.checker.specs.State.{order_at, stands_on, place_found, repeated_on, stood_on, last_line, key_on}
+use Rattle.checker.specs.State.{above, order_at, stands_on, place_found, repeated_on, stood_on, last_line, key_on}
 use Rattle.checker.specs.Turn.{filled_found}
 
 unfoldable pub order_opens : Unit {0}
-unfolding order_at may_follow kinds_opens bytes_opens
+unfolding order_at above may_follow kinds_opens bytes_opens
 order_opens = tt
 
 unfoldable pub stands_opens : Unit {0}

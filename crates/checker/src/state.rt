@@ -86,20 +86,25 @@ pub(crate) fn nothing() -> [Last; KINDS]
 
 // What open record j belongs to.
 pub(crate) fn above(opened: [Open; DEPTH], j: usize) -> Open
-    requires { j ≤ deepest }
     ensures { result ≡ above_of opened j }
 {
-    if j == 0 { NO_RECORD } else { opened[j - 1] }
+    if j == 0 {
+        return NO_RECORD;
+    }
+    if DEPTH < j {
+        return NO_RECORD;
+    }
+    opened[j - 1]
 }
 
 // How many open records stay open for a record of a kind: those down to the innermost that may hold it.
 fn held_in(below: &[[u8; COLUMNS]; HOLDERS], declarant: u32, path: Path, k: u32) -> usize
-    requires { path.depth ≤ deepest }
-    ensures { (result ≡ held_in below.now declarant path.opened k path.depth) × (result ≤ deepest) }
+    ensures { (result ≡ held_in below.now declarant path.opened k path.depth) × (result ≤ path.depth) }
 {
     let opened = path.opened;
     for i in (0..path.depth).rev() {
-        if layout::may_hold(below, declarant, opened[i].kind, above(opened, i).kind, k) {
+        let holder = above(opened, i + 1);
+        if layout::may_hold(below, declarant, holder.kind, above(opened, i).kind, k) {
             return i + 1;
         }
     }
@@ -109,8 +114,7 @@ fn held_in(below: &[[u8; COLUMNS]; HOLDERS], declarant: u32, path: Path, k: u32)
 // The same; the opening lines belong to nothing.
 #[tactic(auto, using(std::proofs::lemmas::Bool::Decides::nat_tests), unfolding(crate::specs::State::held_at, dirf::specs::Tree::opening))]
 pub(crate) fn held_at(below: &[[u8; COLUMNS]; HOLDERS], st: State, k: u32) -> usize
-    requires { st.path.depth ≤ deepest }
-    ensures { (result ≡ held_at below.now st k) × (result ≤ deepest) }
+    ensures { (result ≡ held_at below.now st k) × (result ≤ st.path.depth) }
 {
     if st.count < OPENING_LINES {
         return 0;
@@ -121,13 +125,12 @@ pub(crate) fn held_at(below: &[[u8; COLUMNS]; HOLDERS], st: State, k: u32) -> us
 // Not before the record that opened last there: after an INFPC or INFPA any, after a PSE none.
 #[tactic(auto, using(std::proofs::lemmas::Bool::Decides::nat_tests), unfolding(crate::proofs::Opens::order_opens))]
 fn order_at(path: Path, k: u32, d: usize) -> bool
-    requires { path.depth ≤ deepest }
     ensures { result ≡ order_at path k d }
 {
     if path.depth <= d {
         return true;
     }
-    let last = path.opened[d].kind;
+    let last = above(path.opened, d + 1).kind;
     match last {
         INFPC | INFPA => true,
         PSE => false,
@@ -138,7 +141,6 @@ fn order_at(path: Path, k: u32, d: usize) -> bool
 // From line 4 on.
 #[tactic(auto, using(std::proofs::lemmas::Bool::Decides::nat_tests), unfolding(crate::specs::State::below_on))]
 fn stands_below(path: Path, k: u32, d: usize) -> bool
-    requires { path.depth ≤ deepest }
     ensures { result ≡ below_on path k d }
 {
     k == FIMDIRF || 0 < d && order_at(path, k, d)
@@ -147,7 +149,6 @@ fn stands_below(path: Path, k: u32, d: usize) -> bool
 // May a record of kind k stand here?
 #[tactic(auto, using(std::proofs::lemmas::Bool::Decides::nat_tests), unfolding(crate::proofs::Opens::stands_opens))]
 fn stands(st: State, k: u32, d: usize) -> bool
-    requires { st.path.depth ≤ deepest }
     ensures { result ≡ stands_on st k d }
 {
     match st.count {
@@ -161,7 +162,6 @@ fn stands(st: State, k: u32, d: usize) -> bool
 // 9, 10 and 12.
 #[tactic(auto, using(std::proofs::lemmas::Bool::Decides::nat_tests), unfolding(crate::proofs::Opens::place_opens))]
 pub(crate) fn place_found(st: State, k: u32, d: usize) -> Result<(), Breach>
-    requires { st.path.depth ≤ deepest }
     ensures { found_said result ≡ place_found st k d }
 {
     if k == 0 {

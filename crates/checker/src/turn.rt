@@ -54,7 +54,6 @@ pub(crate) fn refused(count: u32, breach: Breach) -> Answer
 // 21 and 20
 #[tactic(auto, unfolding(crate::specs::Turn::looked_found))]
 pub(crate) fn looked(file: &[u8], st: State, r: Record, last: Last) -> Result<(), Breach>
-    requires { r.outer ≤ deepest }
     ensures { found_said result ≡ looked_found file.now st r last }
 {
     let line = fields::part(file, st.at, r.len);
@@ -105,10 +104,9 @@ impl<'a> Tables<'a> {
 
     // The line as a record: its kind by its identifier, and its place by its kind.
     fn record_of(self, cells: Cells, st: State) -> Record
-        requires { st.path.depth ≤ deepest }
         ensures { (result
             ≡ record_of (edition_said self.entry.edition) self.entry.below.now cells.entry.bytes.now st cells.entry.places.now)
-            × ((result.kind < kinds) × (result.outer ≤ deepest)) }
+            × ((result.kind < kinds) × (result.outer ≤ st.path.depth)) }
     {
         let line = cells.bytes;
         let k = identifiers::kind_of(self.edition, fields::field(line, 1)).unwrap_or(0);
@@ -124,7 +122,6 @@ impl<'a> Tables<'a> {
     // 9, 10 and 12, then 11, 13 to 19 and 26
     #[tactic(auto, unfolding(crate::specs::Turn::read_step, crate::specs::Turn::found_step))]
     fn read(self, cells: Cells, st: State, r: Record) -> Result<Record, Breach>
-        requires { Safe st }
         ensures { stepped st result ≡ read_step self.entry.rows.now cells.entry.bytes.now st cells.entry.places.now r }
     {
         state::place_found(st, r.kind, r.outer)?;
@@ -135,7 +132,6 @@ impl<'a> Tables<'a> {
     // 8
     #[tactic(auto, unfolding(crate::specs::Turn::record_step))]
     fn recorded(self, cells: Cells, st: State) -> Result<Record, Breach>
-        requires { Safe st }
         ensures { stepped st result ≡ by_tables record_step self.entry cells.entry.bytes.now st cells.entry.places.now }
     {
         if !lines::ends_in_bar(cells.bytes) {
@@ -147,7 +143,6 @@ impl<'a> Tables<'a> {
 
     // 4, 5 and 6
     fn lined(self, file: &[u8], st: State) -> Result<Record, Breach>
-        requires { Safe st }
         ensures { stepped st result ≡ by_tables line_step self.entry file.now st }
     {
         let rest = lines::tail(file, st.at);

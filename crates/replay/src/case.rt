@@ -1,10 +1,10 @@
 // Which case comes next: its letter says.
 use crate::files::{replay_check, replay_totals};
+use crate::lines::{read_edition, replay_field, replay_line};
 use crate::numbers::{
     replay_amount_read, replay_amount_written, replay_months_read, replay_months_written,
 };
 use crate::questions::{replay_search, replay_search_given};
-use crate::records::{read_edition, replay_field, replay_line};
 use crate::stop::{BadCase, Stop};
 use editions::Edition;
 use std::io::Read;

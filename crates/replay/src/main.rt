@@ -5,12 +5,12 @@
 mod case;
 mod files;
 mod limits;
+mod lines;
 mod numbers;
 mod parts;
 mod pattern;
 mod printed;
 mod questions;
-mod records;
 mod stop;
 
 use case::Case;

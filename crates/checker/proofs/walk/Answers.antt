@@ -35,9 +35,6 @@ returns-in-Err-clause-totals c =
 pub bounds-past-i : goal.bounds-past-i
 bounds-past-i c = (turn_step c.loop-r.invariant.held c.requires (Ok c.in-Ok.r) c.in-Ok.ensures).fits.kind
 
-pub looked-found-requires : goal.looked-found-requires
-looked-found-requires c = (turn_step c.loop-r.invariant.held c.requires (Ok c.in-Ok.r) c.in-Ok.ensures).fits.outer
-
 pub returns-in-Err-found-clause-judged : goal.returns-in-Err-found-clause-judged
 unfolding last_in
 returns-in-Err-found-clause-judged c =

@@ -11,10 +11,6 @@ pub overflow_cast-result-2 : goal.overflow_cast-result-2
 unfolding entry_of
 overflow_cast-result-2 c = record { fits = omega (arith, c.requires.short) }
 
-pub above-requires : goal.above-requires
-unfolding entry_of
-above-requires c = c.requires.outer
-
 pub returns : goal.returns
 unfolding entry_of
 returns c = simp c.above.ensures
