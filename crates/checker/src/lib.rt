@@ -129,6 +129,7 @@ fn walk(tables: Tables, file: &[u8], room: usize, table: &mut [u32], totals: &mu
         let own = st.count + 1;
         put_entry(table, st.count, &entry_numbers(entry, own));
         put_lasts(table, st.path.opened, r.outer, own);
+        // no From: this is its one use, and the parent has another name there
         past[i] = Last {
             under: entry.parent,
             start: entry.start,
@@ -207,7 +208,7 @@ pub fn check_totals(file: &[u8], table: &mut [u32], totals: &mut [u64]) -> Answe
     judged(file, table.len() / NUMBERS_AN_ENTRY, table, totals)
 }
 
-// The same with a room in entries and no table.
+// The same with a room in entries and no table; a function of its own, since a room may be larger than any table.
 pub fn room_totals(file: &[u8], room: usize, totals: &mut [u64]) -> Answer
     ensures answer { result ≡ answer_of (answer_to file.now room) }
     ensures totals { totals.new ≡ totals_in (total_of file.now room) totals.old }

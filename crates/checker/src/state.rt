@@ -1,5 +1,6 @@
 // What the records so far come to, and the rules that look back at them: 12, 21 and 20. A record is given as its kind and its key's
-// fields; of an earlier one is known where its line stands in a text.
+// fields, by themselves and in no `Record`, since none of these asks the rest of it; of an earlier one is known where its line stands in a
+// text.
 ghost use Rattle.std.specs.Prelude.{◌≡◌, ◌≤◌};
 ghost use Rattle.dirf.specs.Limits.{line_limit};
 ghost use Rattle.dirf.specs.Theorems.Belongs.{deepest};
@@ -184,7 +185,7 @@ fn repeated(last: Last, k: u32, p: u32) -> bool
     kinds::stands_once(k) && last.under == p
 }
 
-// No struct of the six: look_found alone takes them, and repeated asks three.
+// No struct of the six: look_found takes them for this one alone, and repeated asks three.
 // 20, of a record below line p with these fields 2 and 3.
 #[tactic(auto, using(std::proofs::lemmas::Bool::Decides::nat_tests), unfolding(crate::proofs::Opens::key_opens))]
 fn key_bad(text: &[u8], last: Last, k: u32, p: u32, second: &[u8], third: &[u8]) -> bool

@@ -28,7 +28,8 @@ pub(crate) struct Entry {
     pub(crate) parent: u32,
 }
 
-// A line read as a record: its kind, how many open records stand outside it, its length, and where fields 2 and 3 stand in it.
+// A line read as a record: its kind, how many open records stand outside it, its length, and where fields 2 and 3 stand in it. Kind 0
+// where field 1 is no identifier, and no Option: where it would stand is asked before 9 is, and the definition `record_of` has 0.
 #[derive(Clone, Copy)]
 pub(crate) struct Record {
     pub(crate) kind: u32,

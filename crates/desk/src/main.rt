@@ -48,5 +48,6 @@ fn main(rt: HostRuntime) -> io::Result<()> {
         // nothing on standard output: nothing there may be taken for acceptance
         return eprintln!(rt; "desk: standard input cannot be read");
     };
+    // cut here, once: how many bytes came is a number on failure too
     print_answer(&rt, desk_answer(&buf[..count]))
 }

@@ -73,7 +73,7 @@ pub fn right_cpf(s: &[u8]) -> bool
     digits_right(&CPF, s)
 }
 
-// Fourteen digits, of which the last two are right.
+// Fourteen digits, of which the last two are right. Two names for one function over the weights: documents know the two numbers apart.
 pub fn right_cnpj(s: &[u8]) -> bool
     ensures { result ≡ right_CNPJ s.now }
 {

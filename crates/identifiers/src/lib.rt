@@ -21,7 +21,8 @@ fn only(s: &[u8], name: &[u8], k: u32) -> Option<u32>
     s.starts_with(name).then_some(k)
 }
 
-// A function a length, and a function a letter: each match has other bytes and texts, which no size or constant tells apart.
+// A function a length, and a function a letter: each match has other bytes and texts, which no size or constant tells apart. That a text
+// has its length and begins with its letter is one word, `Begins`; an array would say the length and leave the letter to the clause.
 fn three_r(s: &[u8]) -> Option<u32>
     requires { Begins 3 "R" s.now }
     ensures { result ≡ kind_found (kind_in names2025 s.now) }

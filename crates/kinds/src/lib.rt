@@ -25,7 +25,7 @@ pub fn suits(declarant: u32, holder: u32, outer: u32, kind: u32) -> bool
     }
 }
 
-// What an IDREC must belong to for a beneficiary to stand below it.
+// What an IDREC must belong to for a beneficiary to stand below it; 0 for no block, as the definition `block_of` has it.
 #[tactic(auto, using(crate::proofs::Ranges::blocks))]
 fn block_of(d: u32, k: u32) -> u32
     ensures { result ≡ block_of d k }

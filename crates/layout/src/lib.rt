@@ -499,7 +499,7 @@ pub fn field_count(rows: &[u8; ROW_BYTES], k: u32) -> usize
     }
 }
 
-// Row i, from 0, of a kind; past the last row, whatever, and no Option: whoever asks has counted the rows.
+// Row i, from 0, of a kind; no Option past the last: its clause has a row for every kind and place, by the definition `row_codes`.
 #[tactic(auto, using(std::proofs::lemmas::Bool::Decides::nat_tests), unfolding(crate::specs::Codes::codes_open))]
 pub fn row_at(rows: &[u8; ROW_BYTES], k: u32, i: usize) -> Row
     ensures { result ≡ row_codes rows.now k i }

@@ -53,6 +53,7 @@ fn word<'a>(rt: &impl Env, i: usize, space: &'a mut [u8]) -> Option<&'a [u8]>
     ensures { IfSome result (λ word. length word.now ≤ length space.old) }
 {
     let count = rt.arg(i, space).ok()?;
+    // std says how long the word is, and no more
     Some(&space[..count])
 }
 
@@ -76,6 +77,7 @@ fn main(rt: HostRuntime) -> io::Result<()> {
         // nothing on standard output: nothing there may be taken for acceptance
         return eprintln!(rt; "lookup: the file is too long");
     }
+    // cut here, once: how many bytes came is a number on failure too
     let file = &file[..count];
     Question { file, line, cpf }.look_up(&rt, &mut table)
 }

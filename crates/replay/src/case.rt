@@ -56,7 +56,7 @@ impl Case {
         }
     }
 
-    // Reads the rest of the case, and prints what it comes to.
+    // Reads the rest of the case, and prints what it comes to. No struct of the two: what is read takes the input alone, and lent mutably.
     pub fn replay(self, rt: &impl Print, input: &mut impl Read) -> Result<(), Stop> {
         match self {
             Case::Check => replay_check(rt, input),

@@ -7,7 +7,7 @@ use crate::stop::{BadCase, Stop};
 use editions::Edition;
 use std::io::Read;
 
-// An edition as a number, of the years that name one.
+// An edition as a number, of the years that name one. No TryFrom: Edition and u64 are both of other crates.
 pub fn read_edition(input: &mut impl Read) -> Result<Edition, BadCase> {
     let year: u64 = read_number(input)?;
     match year {

@@ -48,7 +48,8 @@ impl fmt::Display for Totals<'_> {
     }
 }
 
-// How many bytes of an output were written, whether those behind them are as they were, and the written ones in hexadecimal.
+// How many bytes of an output were written, whether those behind them are as they were, and the written ones in hexadecimal. The whole
+// output stands beside the count, since those behind are asked too.
 #[derive(Clone, Copy)]
 pub struct Written<'a> {
     pub count: usize,

@@ -1,13 +1,12 @@
 -- The printed values of one byte each: what is asked of the only byte of a field, and that this is what `valid` asks.
-use Rattle.std.specs.Prelude.{if◌then◌else◌}
 use Prim.Native.Nat.{ℕ, ◌-◌, ◌≤◌, ◌<◌}
 use mathlib.Core.Path.{◌≡◌, refl, sym, ap, ◌∙◌}
 use mathlib.Core.Bool.{Bool, true, false, ◌||◌, not, and-true, and-false, or-false, or_assoc}
 use mathlib.Core.List.{List, [], ◌∷◌, map}
 use native.Mathlib.Omega.{arith}
 use lib.Dec.{eqb}
-use lib.ListN.{length, get_or, replicate}
-use borrow.Author.Tests.{not-true, ne_eqb}
+use lib.ListN.{replicate}
+use borrow.Author.Tests.{not-true}
 use Rattle.dirf.specs.Bytes.{Text, bytes, every, some, is_in, same, bytes_opens}
 use Rattle.dirf.specs.Layout.{relation}
 use Rattle.dirf.specs.Fields.{valid}
@@ -66,12 +65,6 @@ letter_valid name s h b n =
     (λ e.
     let p = within asked (true, true) (letters ∷ words) 0 256 refl (omega arith) b (apart h e n) in
     sym (ap (λ x. x.0) p) ∙ ap (λ x. x.1) p)
-
-pub only_lem : (s : Text) → only_byte s ≡ (if eqb (length s) 1 then get_or s 0 0 else 0)
-unfolding only_byte
-only_lem [] = refl
-only_lem (b ∷ []) = refl
-only_lem (b ∷ d ∷ s) = rw (ne_eqb (length (b ∷ d ∷ s)) 1 (λ e. omega arith))
 
 -- two, two and one of the printed relations
 pub relation_lem : (s : Text)

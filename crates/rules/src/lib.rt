@@ -15,7 +15,7 @@ ghost use Rattle.fields.specs.Places.{cells_of};
 ghost use Rattle.refusals.specs.Numbers.{number_said, found_said};
 ghost use Rattle.layout.specs.Tables.{format_of, fill_of, holds_of, rows_in};
 ghost use Rattle.layout.specs.Codes.{row_said};
-ghost use Rattle.rules.specs.Findings.{number_of, contents_found, only_byte, letter_of, FilledRight, reading_said};
+ghost use Rattle.rules.specs.Findings.{number_of, contents_found, letter_of, FilledRight, reading_said};
 
 use fields::Cells;
 use layout::Row;
@@ -95,7 +95,7 @@ fn takes_no_zero(holds: u8) -> bool
 }
 
 // No type for digits: is_date cuts them in three, and would have to build a value of it for each.
-// The value of digits, however many: from 10^18 on it is 10^18, so that it fits.
+// The value of digits, however many: from 10^18 on it is 10^18, so that it fits; std has no such reading.
 fn capped(s: &[u8]) -> u64
     requires { every is_digit s.now ≡ true }
     ensures { result ≡ min (10 ^ 18) (value_of s.now) }
@@ -173,17 +173,6 @@ fn zero_in_front(holds: u8, s: &[u8]) -> bool
     matches!(s, [b'0', ..]) && takes_no_zero(holds)
 }
 
-// The one byte of a text, else 0, which no list of printed values has: so it needs no Option.
-#[tactic(auto, using(crate::proofs::Letters::only_lem, std::proofs::lemmas::Bool::Decides::nat_tests))]
-fn only_byte(s: &[u8]) -> u8
-    ensures { result ≡ only_byte s.now }
-{
-    match s {
-        [b] => *b,
-        _ => 0,
-    }
-}
-
 // One of the printed values, or the record's own identifier.
 fn is_valid(name: &[u8], holds: u8, s: &[u8]) -> bool
     ensures { result ≡ valid name.now (holds_of holds) s.now }
@@ -218,22 +207,16 @@ fn is_relation(s: &[u8]) -> bool
 }
 
 // One of the printed values of one byte.
+#[tactic(auto, using(std::proofs::lemmas::Bool::Decides::nat_tests), unfolding(crate::proofs::Opens::printed_opens))]
 fn is_letter(holds: u8, s: &[u8]) -> bool
     ensures { result ≡ letter_of holds s.now }
 {
-    is_printed(holds, only_byte(s))
-}
-
-#[tactic(auto, using(std::proofs::lemmas::Bool::Decides::nat_tests), unfolding(crate::proofs::Opens::printed_opens))]
-fn is_printed(holds: u8, b: u8) -> bool
-    ensures { result ≡ letter_of holds (b ∷ []) }
-{
     match holds {
-        b's' => matches!(b, b'N' | b'S'),
-        b'1' => matches!(b, b'0' | b'1'),
-        b'2' => matches!(b, b'1' | b'2'),
-        b'3' => matches!(b, b'1' | b'2' | b'3'),
-        b'8' => matches!(b, b'0' | b'1' | b'2' | b'3' | b'4' | b'8'),
+        b's' => matches!(s, [b'N' | b'S']),
+        b'1' => matches!(s, [b'0' | b'1']),
+        b'2' => matches!(s, [b'1' | b'2']),
+        b'3' => matches!(s, [b'1' | b'2' | b'3']),
+        b'8' => matches!(s, [b'0' | b'1' | b'2' | b'3' | b'4' | b'8']),
         _ => true,
     }
 }

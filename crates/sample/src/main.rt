@@ -5,7 +5,8 @@ use editions::Edition;
 use records::{BPFSCP, DECPF, DIRF, FIMDIRF, RESPO, SCP};
 use std::io;
 
-// A line to be written: its kind, as docs/KINDS.md has it, the contents of its fields one after another, and their lengths.
+// A line to be written: its kind, as docs/KINDS.md has it, the contents of its fields one after another, and their lengths, as the line
+// writer takes them.
 #[derive(Clone, Copy)]
 struct Line<'a> {
     kind: u32,

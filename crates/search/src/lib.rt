@@ -28,7 +28,7 @@ struct Entry {
     last: u32,
 }
 
-// A file and the table of its lines' entries.
+// A file and the table of its lines' entries: numbers, since any table is taken, whoever wrote it.
 #[derive(Clone, Copy)]
 struct Lines<'a> {
     file: &'a [u8],
