@@ -2,19 +2,20 @@
 use Prim.Native.Nat.{ℕ, suc, ◌+◌, ◌/◌, ◌≤◌, ◌<◌}
 use mathlib.Core.Path.{◌≡◌, refl, sym, ap, ap₂, ◌∙◌, subst}
 use mathlib.Core.Logic.{◌≢◌}
-use mathlib.Core.Bool.{and-false}
+use mathlib.Core.Bool.{Bool, true, false, and-false}
 use mathlib.Core.List.{List, [], ◌∷◌, ◌++◌}
 use native.Mathlib.Omega.{arith}
 use native.Mathlib.Numerals.{add-one}
 use native.Mathlib.Nat.{add-zero}
 use lib.ListN.{length, get_or, take, length-append}
 use lib.Seq.{take-nil, take-append_seam}
-use borrow.Author.Tests.{ne_eqb}
+use lib.Dec.{ltb}
+use borrow.Author.Tests.{ne_eqb, lt-ltb}
 use Rattle.dirf.specs.Bytes.{Text}
 use Rattle.dirf.specs.Limits.{numbers_an_entry}
 use Rattle.dirf.specs.Kinds.{is_value}
 use Rattle.dirf.specs.Edition.{Edition}
-use Rattle.dirf.specs.Rules.{first}
+use Rattle.dirf.specs.Rules.{Found, keeps, given, first}
 use Rattle.dirf.specs.Tree.{Rec, Open}
 use Rattle.dirf.specs.Order.{kind_of_line}
 use Rattle.dirf.specs.Check.{entry_of as entry_after, table_of}
@@ -24,14 +25,17 @@ use Rattle.dirf.specs.Tables.{AmountsRight}
 use Rattle.dirf.specs.Theorems.Sound.{Sound}
 use Rattle.dirf.specs.Theorems.Totals.{largest_line}
 use Rattle.dirf.proofs.tests.Says.{below_or}
+use Rattle.dirf.proofs.rules.Asked.{Passes, or_else_passes, nothing_found}
 use Rattle.dirf.proofs.tree.History.{table_length}
 use Rattle.dirf.proofs.tree.OpenRecords.{OpenRecords, none_open, innermost}
 use Rattle.dirf.proofs.tree.Groups.{last_none, last_next}
 use Rattle.dirf.proofs.totals.Line.{Adds, adds, added_bound}
 use Rattle.dirf.proofs.totals.Totals.{total_next, total_bound}
 use Rattle.fields.specs.Places.{part_of}
-use Rattle.checker.specs.State.{no_open, start_state, start_past, above, past_after, state_after}
-use Rattle.checker.specs.Turn.{Stepped, Fits, entry_of, turn_of}
+use Rattle.rules.specs.Findings.{number_of}
+use Rattle.std.specs.Prelude.{Ok}
+use Rattle.checker.specs.State.{no_open, start_state, start_past, last_in, look_found, above, past_after, state_after}
+use Rattle.checker.specs.Turn.{Stepped, Fits, looked_found, entry_of, turn_of}
 use Rattle.checker.specs.Totals.{totals_in, add_at, sum_of, line_sum, Addable}
 use Rattle.checker.specs.Answers.{entry_of_code, SayAll, with_numbers, numbers_in, table_within, put_entry, put_lasts, Judged}
 use Rattle.checker.specs.declared.Answer.{Answer}
@@ -41,7 +45,7 @@ use Rattle.checker.specs.declared.turn.Record.{Record}
 use Rattle.checker.proofs.Table.{held_length, put_next, put_above}
 use Rattle.checker.proofs.state.Sums.{Stack}
 use Rattle.checker.proofs.Lent.{totals_length, totals_least, totals_over, totals_same, totals_more}
-use Rattle.checker.proofs.Reading.{lines_of, Reading, reading_start, Stops, Goes, Step, step}
+use Rattle.checker.proofs.Reading.{lines_of, Reading, reading_start, Stops, Goes, On, Step, step}
 
 -- a table with those entries of the lines before in front that it holds whole
 abbrev entries_in : List ℕ → List Rec → List ℕ
@@ -54,6 +58,11 @@ lines_length (r ∷ rs) = length-append (lines_of rs) (r.line ∷ []) ∙ omega 
 -- the total of each kind over the lines before
 abbrev totals_of : Edition → List Rec → ℕ → ℕ
 totals_of e before k = total e k (lines_of before)
+
+given_numbered : (n f : ℕ) (t : Bool) → Passes (ltb 0) (given (suc n) f t)
+unfolding given
+given_numbered n f true = lt-ltb 0 (suc n) (omega arith)
+given_numbered n f false = tt
 
 pub record Held (e : Edition) (below : List (List ℕ)) (file : Text) (room : ℕ) (first t lent ts : List ℕ) (st : State) (past : Past)
     : Type 0 where
@@ -115,6 +124,18 @@ module _ {e : Edition} {below : List (List ℕ)} {file : Text} {room : ℕ} {fir
 
   pub turn_step : {rows : List ℕ} → SayAll e rows below file → (s : Stepped) → s ≡ turn_of e rows below file st → Step h.reading s
   turn_step all s q = subst (Step h.reading) (sym q) (step h.reading all)
+
+  -- a turn that goes on has read a record
+  pub read_on : {rows : List ℕ} → SayAll e rows below file → (r : Record) → Ok r ≡ turn_of e rows below file st → On h.reading r
+  read_on all r q = turn_step all (Ok r) q
+
+  -- which keeps 21 and 20 where looking back finds nothing: nothing is found by number 0
+  pub looks_kept : (r : Record) (x : Found) → x ≡ looked_found file st r (last_in past r.kind) → number_of x ≡ 0
+      → looked_found file st r (last_in past r.kind) ≡ keeps
+  unfolding looked_found look_found number_of
+  looks_kept r x q none =
+      nothing_found number_of (λ n f. refl) _ (or_else_passes (ltb 0) _ _ (given_numbered 20 1 _) (given_numbered 19 2 _))
+      (ap number_of (sym q) ∙ none)
 
   -- every open record is a line
   pub held_lines : (r : Record) → Goes h.reading r → (i : ℕ) → i < r.outer → 1 ≤ (get_or st.path.opened i no_open).line

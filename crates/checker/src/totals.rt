@@ -30,17 +30,21 @@ fn sum_of(s: &[u8], n: usize) -> Centavos
     requires { Summable n s.now }
     ensures { result.0 ≡ sum_of n s.now }
 {
+    if n == 0 {
+        return Centavos(0);
+    }
     let mut sum: u64 = 0;
     let mut one: u64 = 0;
     let mut left = n;
     for &b in s {
-        if left == 0 {
-            return Centavos(sum);
-        }
         if b == b'|' {
             sum += one;
             one = 0;
             left -= 1;
+            // asked behind a bar alone, and not at each byte
+            if left == 0 {
+                return Centavos(sum);
+            }
         } else {
             one = one * 10 + digit(b);
         }

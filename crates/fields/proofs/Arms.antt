@@ -13,7 +13,7 @@ abbrev pub NoneOf : List (List ℕ) → ℕ → Type 0
 NoneOf [] x = Unit {0}
 NoneOf (ks ∷ kss) x = NoneOf kss x × (OneOf ks x → ⊥)
 
-not_in : (ks : List ℕ) (x : ℕ) → (OneOf ks x → ⊥) → is_in x ks ≡ false
+pub not_in : (ks : List ℕ) (x : ℕ) → (OneOf ks x → ⊥) → is_in x ks ≡ false
 unfolding is_in some
 not_in [] x n = refl
 not_in (k ∷ []) x n = rw (ne_eqb x k n)

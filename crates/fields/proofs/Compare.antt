@@ -5,9 +5,8 @@ use mathlib.Core.List.{[], ◌∷◌}
 use Prim.Native.Nat.{ℕ}
 use lib.Dec.{eqb, ltb}
 use lib.Pointwise.{pointwise}
-use Rattle.std.specs.Prelude.{Some}
-use Rattle.std.specs.Ordering.{is_lt, is_some_and, nat_cmp, partial_ordering_then}
-use Rattle.std.specs.Cmp.Lexicographic.{slice_partial_cmp}
+use Rattle.std.specs.Ordering.{is_lt, nat_cmp, ordering_then}
+use Rattle.std.specs.Cmp.Lexicographic.{slice_cmp}
 use Rattle.dirf.specs.Bytes.{Text, same, less}
 use Rattle.dirf.proofs.tests.Bools.{by_answer}
 
@@ -19,7 +18,7 @@ same_lem (x ∷ a) [] = refl
 same_lem (x ∷ a) (y ∷ b) = ap (λ t. eqb x y && t) (same_lem a b)
 
 -- of the two bytes at hand the smaller one decides, and where they are the same what follows
-pub less_lem : (a b : Text) → is_some_and is_lt (slice_partial_cmp (λ x y. Some (nat_cmp x y)) a b) ≡ less a b
+pub less_lem : (a b : Text) → is_lt (slice_cmp nat_cmp a b) ≡ less a b
 unfolding less
 less_lem [] [] = refl
 less_lem [] (y ∷ b) = refl
@@ -29,8 +28,7 @@ less_lem (x ∷ a) (y ∷ b) =
     (λ l. by_answer (eqb x y) (λ e. rw (l, e) (less_lem a b)) (λ e. rw (l, e)))
 
 -- pairs: the first field decides, and where it is the same the second
-pub pair_lem : (a b x y : Text) → is_some_and is_lt (partial_ordering_then
-    (slice_partial_cmp (λ x y. Some (nat_cmp x y)) a x) (slice_partial_cmp (λ x y. Some (nat_cmp x y)) b y)) ≡ (less a x || same a x && less b y)
+pub pair_lem : (a b x y : Text) → is_lt (ordering_then (slice_cmp nat_cmp a x) (slice_cmp nat_cmp b y)) ≡ (less a x || same a x && less b y)
 unfolding less same
 pair_lem [] b [] y = less_lem b y
 pair_lem [] b (q ∷ x) y = refl
@@ -40,8 +38,7 @@ pair_lem (p ∷ a) b (q ∷ x) y =
     (λ l. by_answer (eqb p q) (λ e. rw (l, e) (pair_lem a b x y)) (λ e. rw (l, e)))
 
 -- a number before a text: the number decides first
-pub sized_lem : (m n : ℕ) (a b : Text) → is_some_and is_lt (partial_ordering_then
-    (Some (nat_cmp m n)) (slice_partial_cmp (λ x y. Some (nat_cmp x y)) a b)) ≡ (ltb m n || eqb m n && less a b)
+pub sized_lem : (m n : ℕ) (a b : Text) → is_lt (ordering_then (nat_cmp m n) (slice_cmp nat_cmp a b)) ≡ (ltb m n || eqb m n && less a b)
 sized_lem m n a b =
     by_answer (ltb m n) (λ l. rw l)
     (λ l. by_answer (eqb m n) (λ e. rw (l, e) (less_lem a b)) (λ e. rw (l, e)))

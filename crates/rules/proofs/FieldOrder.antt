@@ -81,11 +81,18 @@ front_lem b [] = refl
 front_lem b (d ∷ s) = rw (le-leb 1 (length (d ∷ s)) (omega arith))
 
 -- the number by the tests that are left, of a field that is filled with right bytes
-pub filled_is : (name : Text) (row : Codes) (s : Text) → FilledRight s row
+pub filled_is : (name : Text) (r : Row) (s : Text) → (length s ≡ 0 → ⊥) → every (right_byte r.format) s ≡ true
+    → number_of (ask_field 0 field_order name r s)
+    ≡ ruled true (right_size r s) (zero_first r s) (no_date r s) (valid name r.holds s) (digits_held r.holds s)
+unfolding ruled
+filled_is name r s filled bytes = filled_number name r s filled ∙ rw bytes
+
+-- the same, where a row is given by its codes
+pub codes_filled : (name : Text) (row : Codes) (s : Text) → FilledRight s row
     → number_of (ask_field 0 field_order name (row_said row) s)
     ≡ (let r = row_said row in ruled true (right_size r s) (zero_first r s) (no_date r s) (valid name r.holds s) (digits_held r.holds s))
-unfolding ruled row_said row_of
-filled_is name row s f = filled_number name (row_said row) s (λ e. omega (arith, f.filled)) ∙ rw f.bytes
+unfolding row_said row_of
+codes_filled name row s f = filled_is name (row_said row) s (λ e. omega (arith, f.filled)) f.bytes
 
 -- to compute what the codes of a row say
 unfoldable pub codes_open : Unit {0}

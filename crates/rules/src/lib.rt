@@ -234,7 +234,7 @@ fn digits_held(holds: u8, s: &[u8]) -> bool
 }
 
 // 15 to 18, then 26, of a field that is filled and whose bytes are of the right kind.
-#[tactic(auto, using(crate::proofs::FieldOrder::filled_is), unfolding(crate::proofs::FieldOrder::codes_open))]
+#[tactic(auto, using(crate::proofs::FieldOrder::codes_filled), unfolding(crate::proofs::FieldOrder::codes_open))]
 fn filled_rule(name: &[u8], s: &[u8], row: Row) -> Result<(), Refusal>
     requires { FilledRight s.now row }
     ensures { number_said result ≡ number_of (ask_field 0 field_order name.now (row_said row) s.now) }

@@ -1,8 +1,8 @@
--- Field k of the line is field k less the fields passed of what begins at byte `start`.
-use Rattle.std.proofs.Common.{◌≡◌, ◌≤◌, ◌-◌, length}
+-- Field k of the line is field `before` of what begins at byte `start`.
+use Rattle.std.proofs.Common.{◌≡◌, ◌≤◌, length}
 use Rattle.fields.specs.Places.{place_of}
 use Rattle.fields.proofs.Spots.{sought}
 use Rattle.fields.proofs.place_of.Given as goal
 
-abbrev pub invariant-loop : goal.invariant-loop
-invariant-loop l = (l.start ≤ length l.line) × (place_of l.line l.k ≡ sought l.line l.start (l.k - l.counter))
+abbrev pub invariant-loop-before : goal.invariant-loop-before
+invariant-loop-before l = (l.start ≤ length l.line) × (place_of l.line l.k ≡ sought l.line l.start l.before)

@@ -2,11 +2,10 @@
 use Prim.Native.Nat.{ℕ}
 use mathlib.Core.Path.{◌≡◌, sym, ap, ap₂, ◌∙◌, subst}
 use native.Mathlib.Omega.{arith}
-use mathlib.Core.List.{[]}
 use lib.ListN.{length, drop}
 use lib.Seq.{drop-length}
 use borrow.Author.Tests.{eqb-true}
-use Rattle.std.specs.Prelude.{Some, None}
+use Rattle.std.specs.Prelude.{Option, Some, None}
 use Rattle.dirf.specs.Lines.{fields}
 use Rattle.dirf.specs.Bytes.{Text}
 use Rattle.dirf.specs.FieldReader.{field_start}
@@ -19,21 +18,27 @@ use Rattle.checker.specs.Totals.{add_at, sum_of, line_sum, Summable}
 use Rattle.checker.proofs.Lent.{add_past, add_none}
 use Rattle.checker.proofs.totals.add_record.Goals as goal
 
+-- where a field begins by the answer that there is: at its place, else at the line's end
+abbrev begins : Text → Option Place → ℕ
+begins part (Some p) = p.start
+begins part None = length part
+
+begins_at : (f : ℕ) (part : Text) (o : Option Place) → o ≡ place_of part f → begins part o ≡ field_start f part
+begins_at f part (Some p) q = (placed f part p (sym q)).start
+begins_at f part None q = sym (unplaced f part (sym q)).1
+
 -- the bytes behind the bar before the first amount are those from which the amounts are added
-cut : (k : ℕ) (line : Text) {part tail : Text} {p : Place} {first : ℕ} → part ≡ line → first ≡ first_amount k
-    → place_of part first ≡ Some p → tail ≡ drop p.start part → tail ≡ from_amounts k line
-cut k line {part} {first = f} same q e t =
-    t ∙ ap (λ x. drop x part) ((placed f part _ e).start ∙ ap (λ f. field_start f part) q) ∙ ap (from_amounts k) same
+cut : (k : ℕ) (line : Text) {part tail : Text} {o : Option Place} {first : ℕ} → part ≡ line → first ≡ first_amount k
+    → o ≡ place_of part first → tail ≡ drop (begins part o) part → tail ≡ from_amounts k line
+cut k line {part} {o} {first = f} same q e t =
+    t ∙ ap (λ x. drop x part) (begins_at f part o e ∙ ap (λ f. field_start f part) q) ∙ ap (from_amounts k) same
 
 -- a line that has no first amount has none
-no_amount : (k : ℕ) (line : Text) {part : Text} {first : ℕ} → part ≡ line → first ≡ first_amount k → place_of part first ≡ None
+no_amount : (k : ℕ) (line : Text) {part : Text} {first : ℕ} → part ≡ line → first ≡ first_amount k → None ≡ place_of part first
     → length (fields (from_amounts k line)) ≡ 0
 unfolding fields
-no_amount k line {part} {first = f} same q e =
-    let past : from_amounts k line ≡ [] =
-    ap (from_amounts k) (sym same)
-    ∙ ap (λ x. drop x part) (ap (λ f. field_start f part) (sym q) ∙ (unplaced f part e).1) ∙ drop-length part in
-    ap (λ s. length (fields s)) past
+no_amount k line {part} same q e =
+    ap (λ s. length (fields s)) (sym (cut k line same q e (sym (drop-length part))))
 
 pub returns-then-is_empty : goal.returns-then-is_empty
 returns-then-is_empty c =
@@ -53,7 +58,7 @@ returns-then-n-eq0 c =
 pub sum_of-requires : goal.sum_of-requires
 sum_of-requires c =
     let line = part_of c.args.file.now c.args.at c.args.r.len in
-    let from = cut c.args.r.kind line c.part-line.ensures.0 c.first_amount.ensures (sym c.in-Some.ensures) c.tail.ensures in
+    let from = cut c.args.r.kind line c.part-line.ensures.0 c.first_amount.ensures c.in-Some.ensures c.tail.ensures in
     subst (λ n. Summable n c.tail.result.now) (sym c.amount_count-n.ensures)
     (subst (Summable (amount_count c.args.r.kind)) (sym from) c.requires.summable)
 
@@ -61,7 +66,7 @@ pub add-requires : goal.add-requires
 unfolding line_sum
 add-requires c =
     let line = part_of c.args.file.now c.args.at c.args.r.len in
-    let from = cut c.args.r.kind line c.part-line.ensures.0 c.first_amount.ensures (sym c.in-Some.ensures) c.tail.ensures in
+    let from = cut c.args.r.kind line c.part-line.ensures.0 c.first_amount.ensures c.in-Some.ensures c.tail.ensures in
     let summed : c.sum_of.result.0 ≡ line_sum c.args.r.kind line = c.sum_of.ensures ∙ ap₂ sum_of c.amount_count-n.ensures from in
     rw summed c.requires.fits
 
@@ -69,7 +74,7 @@ pub returns-in-Some : goal.returns-in-Some
 unfolding line_sum
 returns-in-Some c =
     let line = part_of c.args.file.now c.args.at c.args.r.len in
-    let from = cut c.args.r.kind line c.part-line.ensures.0 c.first_amount.ensures (sym c.in-Some.ensures) c.tail.ensures in
+    let from = cut c.args.r.kind line c.part-line.ensures.0 c.first_amount.ensures c.in-Some.ensures c.tail.ensures in
     let summed : c.sum_of.result.0 ≡ line_sum c.args.r.kind line = c.sum_of.ensures ∙ ap₂ sum_of c.amount_count-n.ensures from in
     c.add.ensures ∙ ap (add_at _ _) summed
 
@@ -77,5 +82,5 @@ returns-in-Some c =
 pub returns-in_default : goal.returns-in_default
 returns-in_default c =
     let line = part_of c.args.file.now c.args.at c.args.r.len in
-    let none = no_amount c.args.r.kind line c.part-line.ensures.0 c.first_amount.ensures (sym c.in_default.ensures) in
+    let none = no_amount c.args.r.kind line c.part-line.ensures.0 c.first_amount.ensures c.in_default.ensures in
     absurd (c.if-n-eq0.false (omega (arith, c.amount_count-n.ensures, c.requires.summable.many, none)))
