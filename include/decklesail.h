@@ -9,8 +9,8 @@
  *   - bytes that nobody writes while the call runs.
  * Nothing else is asked: every content and every length is answered, and no call writes to the bytes. Each function is proved
  * to give, for all bytes and numbers, what the scope document's definitions give (crates/suite/src/lib.rt has each contract).
- * What a C caller passes is checked by nothing. As an older kit built it, a check takes at most 15 kilobytes of stack (14,704 bytes
- * were measured, and 15,344 by decklesail_total, which has the totals of all kinds there; docs/BENCH.md).
+ * What a C caller passes is checked by nothing. As the kit rattle-kit-13f builds it, 15,840 bytes of stack were measured for a check, and
+ * 16,480 for decklesail_total, which has the totals of all kinds there (docs/BENCH.md).
  *
  * Each call answers one number of the answer, decklesail_totals the number and all totals. For several numbers of one answer make several
  * calls with the same arguments.

@@ -107,7 +107,8 @@ unfolding given or_else named field_of
 or_named f true e = refl
 or_named f false e = e
 
-pub at19 : (xs : List Condition) (k : ℕ) (cells : List Text) → ask_conditions 19 xs k cells ≡ named (field_of (ask_conditions 19 xs k cells))
+pub at19 : (xs : List Condition) (k : ℕ) (cells : List Text)
+    → ask_conditions 19 xs k cells ≡ named (field_of (ask_conditions 19 xs k cells))
 unfolding ask_conditions named field_of
 at19 [] k cells = refl
 at19 (x ∷ xs) k cells = or_named x.field (is_in k x.kinds && x.broken cells) (at19 xs k cells)

@@ -57,7 +57,8 @@ number_back w before p o read v known e = rw (front w before (ap (λ r. r.count)
 
 -- arguments: the number, the output
 module _ (κs : _) (a : _) (r : _) (s : _) (p : writer.write_amount.Reads.Post κs a r s) where
-  pub amount_back : (number_answered r).number ≡ 0 → read_amount (take (number_answered r).count s.1.0.now) ≡ record { number = 0; value = a.0.0 }
+  pub amount_back : (number_answered r).number ≡ 0
+      → read_amount (take (number_answered r).count s.1.0.now) ≡ record { number = 0; value = a.0.0 }
   amount_back = number_back _ a.1.0.now p.0 p.1 read_amount _ (numbers_back.amount_back a.0.0 (length a.1.0.now))
 
   pub amount_careful : Careful (number_answered r).number (number_answered r).count a.1.0.now s.1.0.now
@@ -65,7 +66,8 @@ module _ (κs : _) (a : _) (r : _) (s : _) (p : writer.write_amount.Reads.Post �
   amount_careful = careful _ _ a.1.0.now (ap (λ r. r.number) p.0) (ap (λ r. r.count) p.0) p.1
 
 module _ (κs : _) (a : _) (r : _) (s : _) (p : writer.write_months.Reads.Post κs a r s) where
-  pub months_back : (number_answered r).number ≡ 0 → read_months (take (number_answered r).count s.1.0.now) ≡ record { number = 0; value = a.0.0 }
+  pub months_back : (number_answered r).number ≡ 0
+      → read_months (take (number_answered r).count s.1.0.now) ≡ record { number = 0; value = a.0.0 }
   months_back = number_back _ a.1.0.now p.0 p.1 read_months _ (numbers_back.months_back a.0.0 (length a.1.0.now))
 
   pub months_careful : Careful (number_answered r).number (number_answered r).count a.1.0.now s.1.0.now

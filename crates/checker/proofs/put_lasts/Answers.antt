@@ -27,13 +27,15 @@ put_step t opened zero last one = absurd (omega arith)
 put_step t opened (suc i) last one = let q : suc i - 1 ≡ i = omega arith in rw q
 
 -- where the table holds no entry nothing is put
-put-nothing : (t : List ℕ) (opened : List Open) (i last : ℕ) → length t < numbers_an_entry → ((j : ℕ) → j < i → 1 ≤ (get_or opened j no_open).line)
+put-nothing : (t : List ℕ) (opened : List Open) (i last : ℕ) → length t < numbers_an_entry
+    → ((j : ℕ) → j < i → 1 ≤ (get_or opened j no_open).line)
     → t ≡ put_lasts t opened i last
 unfolding put_lasts put_last
 put-nothing t opened zero last few lined = refl
 put-nothing t opened (suc i) last few lined =
     let none : length t / numbers_an_entry < (get_or opened i no_open).line = omega (arith, lined i (omega arith)) in
-    rw (lt-leb ((get_or opened i no_open).line) (length t / numbers_an_entry) none) (put-nothing t opened i last few (λ j h. lined j (omega arith)))
+    rw (lt-leb ((get_or opened i no_open).line) (length t / numbers_an_entry) none)
+    (put-nothing t opened i last few (λ j h. lined j (omega arith)))
 
 pub returns-then-table-lt-NUMBERS_AN_ENTRY : goal.returns-then-table-lt-NUMBERS_AN_ENTRY
 unfolding put_lasts

@@ -34,7 +34,8 @@ use Rattle.rules.specs.Findings.{contents_found}
 use Rattle.rules.proofs.Laws.{or_keeps}
 use Rattle.checker.specs.Lines.{number_at}
 use Rattle.checker.specs.State.{held_at, last_in, place_found, look_found}
-use Rattle.checker.specs.Turn.{Stepped, refused_at, halt, found_step, looked_found, filled_found, read_step, record_of, record_step, line_step}
+use Rattle.checker.specs.Turn.{Stepped, refused_at, halt, found_step, looked_found, filled_found}
+use Rattle.checker.specs.Turn.{read_step, record_of, record_step, line_step}
 use Rattle.checker.specs.Turn.{turn_of}
 use Rattle.checker.specs.Answers.{answer_of, SayAll}
 use Rattle.checker.specs.State.{Past}

@@ -7,7 +7,8 @@ use Rattle.checker.proofs.walk.Given as goal
 
 abbrev pub invariant-loop-r : goal.invariant-loop-r
 invariant-loop-r l = record {
-  held : Held (edition_said l.tables.edition) l.tables.below.now l.file l.room l.initial.table l.table l.initial.totals l.totals l.st l.past;
+  held :
+      Held (edition_said l.tables.edition) l.tables.below.now l.file l.room l.initial.table l.table l.initial.totals l.totals l.st l.past;
   few : l.st.count ≤ lines_limit;
 }
 
